@@ -1,0 +1,5 @@
+pub mod Content
+pub mod NumberLemmas
+pub mod TraceLemmas
+pub mod HeldLemmas
+pub mod TraceLaws

@@ -1,0 +1,15 @@
+use Rattle.std.proofs.Common.{◌≡◌, ◌-◌, length}
+use Rattle.mb_base.specs.Outside.{Stays}
+use Rattle.mb_base.specs.Held.{held_bytes}
+use Rattle.mb_base.specs.Trace.{bytes_ahead}
+use Rattle.mb_base.proofs.turn.fill_record.Given as goal
+
+abbrev pub invariant-reads : goal.invariant-reads
+invariant-reads g l = record {
+  kept : Stays (bytes_ahead (held_bytes l.initial.held) (g.S.Source.left l.initial.source)) (bytes_ahead (held_bytes l.held) (g.S.Source.left l.source));
+  faults : g.S.Source.faults l.source ≡ g.S.Source.faults l.initial.source;
+  same : g.S.Source.made l.source ≡ g.S.Source.made l.initial.source;
+}
+
+abbrev pub decreases-reads : goal.decreases-reads
+decreases-reads g l = 65543 - length (held_bytes l.held)

@@ -1,0 +1,13 @@
+pub mod Outside
+pub mod Broadcast
+pub mod Files
+pub mod Links
+pub mod Words
+pub mod Plan
+pub mod InMemory
+pub mod ExchangeLog
+pub mod MemLinks
+pub mod Number
+pub mod Trace
+pub mod Held
+pub mod Status

@@ -1,0 +1,69 @@
+ghost use Rattle.std.specs.Prelude.{◌≡◌, ℕ, List, ◌^◌, ◌<◌, Option, None, Some, length, option_map, IfOk};
+ghost use Rattle.mb_base.specs.Trace.{records_of, broken_of, trace_broadcast, bytes_ahead};
+
+use crate::held::Held;
+use crate::turn::{end_at, fill_record, give};
+use crate::{Air, AirEvent, Failed, Memory, Source};
+use std::alloc::Global;
+
+/// The air that a packet trace tells of, which is read from a source as it is asked for. Moments are NTP
+/// seconds. It takes room for one record when it is made, and no memory afterwards.
+///
+/// It is told where its source is, its faults are its source's, and it answers `Failed` exactly where the
+/// source fails in that call: what was read before stays for the next one. A cut record is `Broken` at
+/// its first byte, counted from the first byte that the source gave; that count stands still at
+/// `u64::MAX`.
+#[derive(Drop)]
+pub struct TraceAir<S> {
+    source: S,
+    held: Held,
+    place: u64,
+    rested: Option<u64>,
+}
+
+impl<S: Source + Drop> TraceAir<S> {
+    /// The air of the trace that the source is about to give. `Memory` where there is no room for a record;
+    /// the source is then dropped.
+    pub fn new(alloc: Global, source: S) -> Result<TraceAir<S>, Memory>
+        ensures told { IfOk result (λ air. ⟦<TraceAir<S> as Air>⟧.broadcast air
+            ≡ option_map (trace_broadcast 0 None) (S.left source)) }
+        ensures exact { (bytes : List ℕ) → S.left source ≡ Some bytes → length bytes < 2 ^ 64
+            → IfOk result (λ air. ⟦<TraceAir<S> as Air>⟧.broadcast air
+            ≡ Some (record { records = records_of bytes; broken = broken_of bytes; rested = None })) }
+        ensures faults { IfOk result (λ air. ⟦<TraceAir<S> as Air>⟧.faults air ≡ S.faults source) }
+        ensures made { IfOk result (λ air. ⟦<TraceAir<S> as Air>⟧.made air ≡ S.made source) }
+    {
+        let held = Held::new(alloc)?;
+        Ok(TraceAir {
+            source,
+            held,
+            place: 0,
+            rested: None,
+        })
+    }
+}
+
+impl<S: Source> Air for TraceAir<S> {
+    ghost use Rattle.mb_base.specs.Held.{held_bytes};
+
+    type Made = S::Made;
+
+    ghost made = { λ air. S.made air.source };
+
+    ghost broadcast = { λ air. option_map (trace_broadcast air.place air.rested)
+        (bytes_ahead (held_bytes air.held) (S.left air.source)) };
+
+    ghost faults = { λ air. S.faults air.source };
+
+    fn next(&mut self, until: u64, buf: &mut [u8]) -> AirEvent {
+        match fill_record(&mut self.held, &mut self.source) {
+            Err(Failed) => AirEvent::Failed,
+            Ok(Some(size)) => give(&mut self.held, &mut self.place, size, until, buf),
+            Ok(None) => end_at(self.place, self.held.as_slice()),
+        }
+    }
+
+    fn rest(&mut self, until: u64) {
+        self.rested = Some(until);
+    }
+}
