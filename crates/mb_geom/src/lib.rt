@@ -1,0 +1,9 @@
+//! Descriptions of files and their blocks: how a file of F bytes is cut into symbols of T bytes, and its
+//! symbols into blocks, under Compact No-Code (RFC 3926 section 5.1.2) and Raptor (RFC 5053 section 5.3.1).
+#![tactic(auto)]
+
+mod desc;
+mod parts;
+
+pub use desc::{Desc, DescFault, DescParts, Scheme};
+pub use parts::{Parts, partition};
