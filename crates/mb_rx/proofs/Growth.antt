@@ -1,0 +1,85 @@
+-- A session as a fold over its records, and how its events grow: at their end only.
+use Rattle.std.proofs.Common.{◌≡◌, ℕ, List, [], ◌∷◌, ◌++◌, Option, Some, None, fold, refl, sym, ap, ◌∙◌, append_assoc, append-nil}
+use Rattle.std.proofs.lemmas.List.Sums.{fold-append}
+use Rattle.mb_base.specs.Broadcast.{Record}
+use Rattle.mb_rx.specs.Receiver.{fresh, step}
+use Rattle.mb_rx.specs.Run.{Event, Line, Known, Session, after_record, session, read_events, hand_out_events, end_events, events_of, Extends}
+use Rattle.mb_rx.specs.Lines as line
+use Rattle.mb_rx.specs.declared.cause.Cause.{Cause}
+use Rattle.mb_rx.specs.declared.words.RxWords.{RxWords}
+use Rattle.mb_rx.specs.declared.cause.Ending.{Ending}
+use Rattle.mb_rx.specs.declared.cause.Ending.TheVariants.{EndsBy, BreaksAt}
+use Rattle.mb_rx.specs.Receive.{events_by, known_of}
+
+-- before anything is heard
+pub session-nil : (tsi : ℕ) → session tsi [] ≡ record { receiver = fresh; events = [] }
+unfolding session
+session-nil tsi = refl
+
+-- later records go on from the session that the first ones made
+pub session-append : (tsi : ℕ) (xs ys : List Record) → session tsi (xs ++ ys) ≡ fold (after_record tsi) (session tsi xs) ys
+unfolding session
+session-append tsi xs ys = fold-append (after_record tsi) (record { receiver = fresh; events = [] }) xs ys
+
+-- one more record
+pub session-push : (tsi : ℕ) (records : List Record) (heard : Record) → session tsi (records ++ heard ∷ []) ≡ after_record tsi (session tsi records) heard
+session-push tsi records heard = session-append tsi records (heard ∷ [])
+
+-- what a record adds to the events
+abbrev pub events_at : ℕ → Session → Record → List Event
+events_at tsi s heard = let stepped = step tsi s.receiver heard in read_events stepped.read ++ hand_out_events stepped.receiver.lives
+
+-- records only add events, at the end
+pub events_grow : (tsi : ℕ) (s : Session) (records : List Record) → (later : List Event) × ((fold (after_record tsi) s records).events ≡ s.events ++ later)
+events_grow tsi s [] = ([], sym (append-nil s.events))
+events_grow tsi s (heard ∷ records) =
+    let r = events_grow tsi (after_record tsi s heard) records in
+    (events_at tsi s heard ++ r.0, r.1 ∙ append_assoc s.events (events_at tsi s heard) r.0)
+
+-- while the session goes on, more records add events at the end
+grows_on : (known more : Known) → known.cause ≡ None → more.words ≡ known.words
+    → (later : List Record) → more.records ≡ known.records ++ later → (events : List Event) × (events_of more ≡ events_of known ++ events)
+grows_on known more c w later e =
+    let tsi = known.words.tsi in
+    let was = session tsi known.records in
+    let now = session more.words.tsi more.records in
+    let goes : now ≡ fold (after_record tsi) was later = ap (λ (words : RxWords). session words.tsi more.records) w ∙ ap (session tsi) e ∙ session-append tsi known.records later in
+    let r = events_grow tsi was later in
+    let ending = end_events more now.receiver more.cause in
+    let old : events_of known ≡ was.events = ap (λ cause. was.events ++ end_events known was.receiver cause) c ∙ append-nil was.events in
+    let new : events_of more ≡ was.events ++ (r.0 ++ ending) = ap (λ (s : Session). s.events ++ ending) goes ∙ ap (λ events. events ++ ending) r.1 ∙ append_assoc was.events r.0 ending in
+    (r.0 ++ ending, new ∙ ap (λ events. events ++ (r.0 ++ ending)) (sym old))
+
+-- once the session has ended, its events stand
+ended_stands : (known more : Known) (cause : Cause) → known.cause ≡ Some cause → more.words ≡ known.words
+    → more.cause ≡ Some cause → more.records ≡ known.records → (events : List Event) × (events_of more ≡ events_of known ++ events)
+ended_stands known more cause c w d e =
+    let at : RxWords → List Record → Option Cause → List Event
+    = λ words records ending. events_of (record known { words = words; records = records; cause = ending }) in
+    let same : events_of more ≡ events_of known
+    = ap (λ words. at words more.records more.cause) w ∙ ap (λ records. at known.words records more.cause) e ∙ ap (at known.words known.records) (d ∙ sym c) in
+    ([], same ∙ sym (append-nil (events_of known)))
+
+-- whether or not it has ended
+grows_by : (known more : Known) → Extends known more → (cause : Option Cause) → known.cause ≡ cause → (later : List Event) × (events_of more ≡ events_of known ++ later)
+grows_by known more x None c = let r = x.records c in grows_on known more c x.words r.0 r.1
+grows_by known more x (Some cause) c = let e = x.ended cause c in ended_stands known more cause c x.words e.0 e.1
+
+-- what is known of a run grows, and the events that it has made grow at their end only
+pub run_grows : (known more : Known) → Extends known more → (later : List Event) × (events_of more ≡ events_of known ++ later)
+run_grows known more x = grows_by known more x known.cause refl
+
+-- Of a run whose words name no tables and no server, the session's events come first.
+
+-- what comes behind the session's events
+abbrev pub closing_events : RxWords → List Record → Option Ending → List Event
+closing_events words records None = end_events (known_of words records None) (session words.tsi records).receiver None
+closing_events words records (Some (EndsBy cause)) = end_events (known_of words records (Some cause)) (session words.tsi records).receiver (Some cause)
+closing_events words records (Some (BreaksAt place)) = Line (line.broken place) ∷ []
+
+-- the events of such a run, whichever way the session goes
+pub events_by-session : (words : RxWords) (records : List Record) (ending : Option Ending)
+    → events_by words records ending ≡ (session words.tsi records).events ++ closing_events words records ending
+events_by-session words records None = refl
+events_by-session words records (Some (EndsBy cause)) = refl
+events_by-session words records (Some (BreaksAt place)) = ap (λ events. events ++ Line (line.broken place) ∷ []) (append-nil (session words.tsi records).events)

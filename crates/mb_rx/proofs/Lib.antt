@@ -1,0 +1,11 @@
+pub mod DatagramLemmas
+pub mod Making
+pub mod LivesLemmas
+pub mod HandOut
+pub mod Growth
+pub mod Ready
+pub mod Honest
+pub mod ListenLemmas
+pub mod HeardLemmas
+pub mod Printing
+pub mod RunLemmas

@@ -1,0 +1,189 @@
+-- How listening goes on: what was taken from the air, what records make of a receiver one after another, and
+-- what was made or stopped.
+use Rattle.std.proofs.Common.{◌≡◌, ℕ, ◌<◌, ◌+◌, length, length-append, List, [], ◌∷◌, ◌++◌, fold, take, Option, Some, None, Result, Ok, Err, refl, sym, ap, subst, ◌∙◌, append_assoc, append-nil, arith}
+use Rattle.std.proofs.lemmas.List.Sums.{fold-append}
+use Rattle.mb_base.specs.Outside.{Becomes}
+use Rattle.mb_base.specs.Broadcast.{Record, Broadcast, Hears, IsPast}
+use Rattle.mb_base.specs.declared.air.AirEvent.TheVariants.{Datagram, Quiet, Ended, Broken, Failed}
+use Rattle.mb_base.specs.declared.outcome.Status.{Status}
+use Rattle.mb_base.specs.declared.outcome.Status.TheVariants as status
+use Rattle.mb_rx.specs.declared.words.RxWords.{RxWords}
+use Rattle.mb_rx.specs.declared.session.Listened.{Listened}
+use Rattle.mb_rx.specs.declared.cause.TheConstants.{DATAGRAMS_MAX}
+use Rattle.mb_rx.specs.declared.cause.Ending.{Ending}
+use Rattle.mb_rx.specs.declared.cause.Ending.TheVariants.{EndsBy, BreaksAt}
+use Rattle.mb_rx.specs.declared.cause.Cause.TheVariants as cause
+use Rattle.mb_rx.specs.Receiver.{Receiver}
+use Rattle.mb_rx.specs.Run.{Event, Session, after_record}
+use Rattle.mb_rx.specs.Receive.{Outputs, Makes, Stops, Takes, IsEnding, IsOver}
+use Rattle.mb_rx.specs.Listening as listening
+use Rattle.mb_rx.specs.Listening.{Plays, after_records}
+use Rattle.mb_rx.proofs.Making.{Makes-nil, Makes-trans, Stops-after, Stops-memory}
+
+-- ---- the air
+
+pub Takes-none : (air : Option Broadcast) → Becomes air air (Takes [])
+Takes-none None = tt
+Takes-none (Some air) = refl
+
+pub Takes-trans : (a b c : Option Broadcast) (xs ys : List Record) → Becomes a b (Takes xs) → Becomes b c (Takes ys) → Becomes a c (Takes (xs ++ ys))
+Takes-trans None b c xs ys p q = tt
+Takes-trans (Some a) None c xs ys p q = absurd p
+Takes-trans (Some a) (Some b) None xs ys p q = absurd q
+Takes-trans (Some a) (Some b) (Some c) xs ys p q =
+    p ∙ (ap (λ (x : Broadcast). record x { records = xs ++ x.records }) q
+    ∙ ap (λ (rs : List Record). record c { records = rs }) (sym (append_assoc xs ys c.records)))
+
+-- an event that takes no record
+pub Hears-datagram : (until at len : ℕ) (buf : List ℕ) (a b : Option Broadcast) → Becomes a b (Hears until (Datagram at len) buf)
+    → Becomes a b (Takes (record { at = at; bytes = take len buf } ∷ []))
+Hears-datagram until at len buf None b p = tt
+Hears-datagram until at len buf (Some a) None p = absurd p
+Hears-datagram until at len buf (Some a) (Some b) p = p
+
+-- an event that takes none tells how the session ended
+pub Hears-quiet : (words : RxWords) (buf : List ℕ) (a b : Option Broadcast) → Becomes a b (Hears words.until Quiet buf)
+    → Becomes a b (Takes []) × Becomes a b (λ _ air. IsEnding words [] (Some (EndsBy cause.Quiet)) air)
+Hears-quiet words buf None b p = (tt, tt)
+Hears-quiet words buf (Some a) None p = absurd p
+Hears-quiet words buf (Some a) (Some b) p = (sym p.1, subst (λ (x : Broadcast). IsPast words.until x.records) (sym p.1) p.0)
+
+pub Hears-ended : (words : RxWords) (buf : List ℕ) (a b : Option Broadcast) → Becomes a b (Hears words.until Ended buf)
+    → Becomes a b (Takes []) × Becomes a b (λ _ air. IsEnding words [] (Some (EndsBy cause.Ended)) air)
+Hears-ended words buf None b p = (tt, tt)
+Hears-ended words buf (Some a) None p = absurd p
+Hears-ended words buf (Some a) (Some b) p = (sym p.2, subst (IsOver None) (sym p.2) (record { none_left = p.0; end = p.1 }))
+
+pub Hears-broken : (words : RxWords) (place : ℕ) (buf : List ℕ) (a b : Option Broadcast) → Becomes a b (Hears words.until (Broken place) buf)
+    → Becomes a b (Takes []) × Becomes a b (λ _ air. IsEnding words [] (Some (BreaksAt place)) air)
+Hears-broken words place buf None b p = (tt, tt)
+Hears-broken words place buf (Some a) None p = absurd p
+Hears-broken words place buf (Some a) (Some b) p = (sym p.2, subst (IsOver (Some place)) (sym p.2) (record { none_left = p.0; end = p.1 }))
+
+pub Hears-failed : (until : ℕ) (buf : List ℕ) (a b : Option Broadcast) → Becomes a b (Hears until Failed buf) → Becomes a b (Takes [])
+Hears-failed until buf None b p = tt
+Hears-failed until buf (Some a) None p = absurd p
+Hears-failed until buf (Some a) (Some b) p = sym p
+
+-- how a session ended is told by its last part
+pub ending-after : (words : RxWords) (records : List Record) (ending : Ending) (a b c : Option Broadcast) → Becomes a b (Takes records)
+    → Becomes b c (λ _ air. IsEnding words [] (Some ending) air) → Becomes a c (λ _ air. IsEnding words records (Some ending) air)
+ending-after words records ending None b c p q = tt
+ending-after words records ending (Some a) None c p q = absurd p
+ending-after words records ending (Some a) (Some b) None p q = absurd q
+ending-after words records (EndsBy cause.Quiet) (Some a) (Some b) (Some c) p q = q
+ending-after words records (EndsBy cause.Ended) (Some a) (Some b) (Some c) p q = q
+ending-after words records (EndsBy cause.Closed) (Some a) (Some b) (Some c) p q = absurd q
+ending-after words records (EndsBy cause.Limit) (Some a) (Some b) (Some c) p q = absurd (omega (arith, q))
+ending-after words records (BreaksAt place) (Some a) (Some b) (Some c) p q = q
+
+-- ---- what records make of a receiver
+
+fold-from : (tsi : ℕ) (r : Receiver) (events : List Event) (records : List Record)
+    → fold (after_record tsi) (record { receiver = r; events = events }) records
+    ≡ record { receiver = (after_records tsi r records).receiver; events = events ++ (after_records tsi r records).events }
+fold-from tsi r events [] = ap (λ (es : List Event). record { receiver = r; events = es }) (sym (append-nil events))
+fold-from tsi r events (heard ∷ records) =
+    let s = after_record tsi (record { receiver = r; events = [] }) heard in
+    fold-from tsi s.receiver (events ++ s.events) records
+    ∙ (ap (λ (es : List Event). record { receiver = (after_records tsi s.receiver records).receiver; events = es }) (append_assoc events s.events (after_records tsi s.receiver records).events)
+    ∙ ap (λ (x : Session). record { receiver = x.receiver; events = events ++ x.events }) (sym (fold-from tsi s.receiver s.events records)))
+
+-- records after records
+pub after_records-append : (tsi : ℕ) (r : Receiver) (xs ys : List Record)
+    → after_records tsi r (xs ++ ys) ≡ record {
+      receiver = (after_records tsi (after_records tsi r xs).receiver ys).receiver;
+      events = (after_records tsi r xs).events ++ (after_records tsi (after_records tsi r xs).receiver ys).events;
+    }
+after_records-append tsi r xs ys = fold-append (after_record tsi) (record { receiver = r; events = [] }) xs ys ∙ fold-from tsi (after_records tsi r xs).receiver (after_records tsi r xs).events ys
+
+-- ---- what was made, or stopped
+
+pub Plays-stopped : (A : Type 0) (reason : Status) (a b : Outputs) (events : List Event) → Stops reason a b events → Plays {A = A} a b events (Err reason)
+Plays-stopped A status.AirFault a b events s = absurd s.stop
+Plays-stopped A _ a b events s = s
+
+-- ---- the next datagram
+
+-- a datagram was taken, and a status stopped its events
+pub hears-stopped : (words : RxWords) (air_before air_after : Option Broadcast) (old new : Receiver) (before after : Outputs)
+    (heard : Record) (reason answer : Status) (result : Result (Option Ending) Status) → Becomes air_before air_after (Takes (heard ∷ []))
+    → result ≡ Err answer → answer ≡ reason → Stops reason before after (after_record words.tsi (record { receiver = old; events = [] }) heard).events
+    → listening.Hears words air_before air_after old new before after result
+hears-stopped words air_before air_after old new before after heard reason answer result taken is same stopped =
+    subst (λ (x : Result (Option Ending) Status). listening.Hears words air_before air_after old new before after x) (sym (is ∙ ap Err same))
+    (record { records = heard ∷ []; taken = taken; one = omega arith; heard = tt; played = Plays-stopped (Option Ending) reason before after _ stopped })
+
+-- no datagram was taken, for this is how the session ended
+pub hears-ending : (words : RxWords) (air_before air_after : Option Broadcast) (old : Receiver) (outputs : Outputs) (ending : Ending)
+    → Becomes air_before air_after (Takes []) × Becomes air_before air_after (λ _ air. IsEnding words [] (Some ending) air)
+    → listening.Hears words air_before air_after old old outputs outputs (Ok (Some ending))
+hears-ending words air_before air_after old outputs ending tells = record {
+  records = [];
+  taken = tells.0;
+  one = omega arith;
+  heard = (refl, refl, tells.1);
+  played = Makes-nil outputs;
+}
+
+-- ---- listening, datagram after datagram
+
+pub Plays-after : (A B : Type 0) (reason : Status) (a b c : Outputs) (xs ys : List Event) → Makes a b xs → Plays {A = A} b c ys (Err reason) → Plays {A = B} a c (xs ++ ys) (Err reason)
+Plays-after A B status.AirFault a b c xs ys m p = Makes-trans a b c xs ys m p
+Plays-after A B status.Done a b c xs ys m p = Stops-after status.Done a b c xs ys m p
+Plays-after A B status.Incomplete a b c xs ys m p = Stops-after status.Incomplete a b c xs ys m p
+Plays-after A B status.Usage a b c xs ys m p = Stops-after status.Usage a b c xs ys m p
+Plays-after A B status.Tables a b c xs ys m p = Stops-after status.Tables a b c xs ys m p
+Plays-after A B status.TraceBroken a b c xs ys m p = Stops-after status.TraceBroken a b c xs ys m p
+Plays-after A B status.ReadFault a b c xs ys m p = Stops-after status.ReadFault a b c xs ys m p
+Plays-after A B status.StoreFault a b c xs ys m p = Stops-after status.StoreFault a b c xs ys m p
+Plays-after A B status.OutFault a b c xs ys m p = Stops-after status.OutFault a b c xs ys m p
+Plays-after A B status.Memory a b c xs ys m p = Stops-after status.Memory a b c xs ys m p
+Plays-after A B status.BadFile a b c xs ys m p = Stops-after status.BadFile a b c xs ys m p
+Plays-after A B status.Unusable a b c xs ys m p = Stops-after status.Unusable a b c xs ys m p
+Plays-after A B status.ServeFault a b c xs ys m p = Stops-after status.ServeFault a b c xs ys m p
+Plays-after A B status.NoJ a b c xs ys m p = Stops-after status.NoJ a b c xs ys m p
+
+pub so_far-none : (words : RxWords) (air : Option Broadcast) (old : Receiver) (outputs : Outputs) → listening.IsHeardSoFar words 0 air air old old outputs outputs
+so_far-none words air old outputs = record { records = []; taken = Takes-none air; number = refl; heard = refl; made = Makes-nil outputs }
+
+-- where the session goes on, a datagram was heard
+pub heard_on : (words : RxWords) (b c : Option Broadcast) (old new : Receiver) (y z : Outputs) (ending : Option Ending) → ending ≡ None
+    → listening.Hears words b c old new y z (Ok ending) → listening.Hears words b c old new y z (Ok None)
+heard_on words b c old new y z ending e h = subst (λ (o : Option Ending). listening.Hears words b c old new y z (Ok o)) e h
+
+pub so_far-next : (words : RxWords) (n : ℕ) (a b c : Option Broadcast) (old mid new : Receiver) (x y z : Outputs)
+    → listening.IsHeardSoFar words n a b old mid x y → listening.Hears words b c mid new y z (Ok None) → listening.IsHeardSoFar words (n + 1) a c old new x z
+so_far-next words n a b c old mid new x y z s next =
+    let before = after_records words.tsi old s.records in
+    let h : listening.Hears words b c before.receiver new y z (Ok None) = subst (λ (m : Receiver). listening.Hears words b c m new y z (Ok None)) s.heard next in
+    let joined = after_records-append words.tsi old s.records h.records in
+    record {
+      records = s.records ++ h.records;
+      taken = Takes-trans a b c s.records h.records s.taken h.taken;
+      number = length-append s.records h.records ∙ omega (arith, s.number, h.heard.0);
+      heard = h.heard.1 ∙ sym (ap (λ (r : Session). r.receiver) joined);
+      made = subst (λ (es : List Event). Makes x z es) (sym (ap (λ (r : Session). r.events) joined)) (Makes-trans x y z before.events _ s.made h.played);
+    }
+
+pub listens-stopped : (words : RxWords) (n : ℕ) (a b c : Option Broadcast) (old mid new : Receiver) (x y z : Outputs)
+    (reason answer : Status) (result : Result Listened Status) → listening.IsHeardSoFar words n a b old mid x y → n < DATAGRAMS_MAX
+    → result ≡ Err answer → answer ≡ reason → listening.Hears words b c mid new y z (Err reason) → listening.Listens words a c old new x z result
+listens-stopped words n a b c old mid new x y z reason answer result s room is same next =
+    let before = after_records words.tsi old s.records in
+    let h : listening.Hears words b c before.receiver new y z (Err reason) = subst (λ (m : Receiver). listening.Hears words b c m new y z (Err reason)) s.heard next in
+    let joined = after_records-append words.tsi old s.records h.records in
+    subst (λ (r : Result Listened Status). listening.Listens words a c old new x z r) (sym (is ∙ ap Err same)) (record {
+      records = s.records ++ h.records;
+      taken = Takes-trans a b c s.records h.records s.taken h.taken;
+      within = let len : length (s.records ++ h.records) ≡ length s.records + length h.records = length-append s.records h.records in omega (arith, s.number, h.one, room, len);
+      heard = tt;
+      played = subst (λ (es : List Event). Plays {A = Listened} x z es (Err reason)) (sym (ap (λ (r : Session). r.events) joined)) (Plays-after (Option Ending) Listened reason x y z before.events _ s.made h.played);
+    })
+
+-- want of memory before anything was heard
+pub listens-memory : (words : RxWords) (air : Option Broadcast) (old : Receiver) (outputs : Outputs) (answer : Status) (result : Result Listened Status)
+    → result ≡ Err answer → answer ≡ status.Memory → listening.Listens words air air old old outputs outputs result
+listens-memory words air old outputs answer result is same =
+    subst (λ (r : Result Listened Status). listening.Listens words air air old old outputs outputs r) (sym (is ∙ ap Err same))
+    (record { records = []; taken = Takes-none air; within = omega arith; heard = tt; played = Stops-memory outputs [] })

@@ -1,0 +1,108 @@
+-- How parts that only print join, and the lines of lives.
+use Rattle.std.proofs.Common.{◌≡◌, ℕ, ◌+◌, ◌<◌, ◌&&◌, ◌==◌, not, Bool, true, false, cond, List, [], ◌∷◌, ◌++◌, length, take, drop, get_or, Option, Result, Ok, Err, IsErrAnd, map, filter, refl, sym, ap, ◌∙◌, subst, append_assoc, arith}
+use Rattle.std.proofs.lemmas.List.{map-append, take-append-drop, take_more}
+use Rattle.std.proofs.lemmas.Bool.Decides.{nat_tests}
+use Rattle.std.specs.List.{list_all}
+use Rattle.mb_base.specs.Files.{File}
+use Rattle.mb_base.specs.declared.outcome.Status.{Status}
+use Rattle.mb_base.specs.declared.outcome.Status.TheVariants as status
+use Rattle.mb_rx.specs.Lines as line
+use Rattle.mb_rx.specs.Receiver as receiver
+use Rattle.mb_rx.specs.Seen.{life_seen, lives_seen}
+use Rattle.mb_rx.specs.Run.{Event, Line, count_line, incomplete_lines}
+use Rattle.mb_rx.specs.Receive.{Makes, Stops, outputs}
+use Rattle.mb_rx.specs.Steps.{Prints}
+use Rattle.mb_rx.specs.declared.lives.Life.{Life}
+use Rattle.mb_rx.proofs.Making.{Stops-more, Stops-memory, Does-after}
+
+-- want of memory before any event
+pub Prints-memory : {A : Type 0} (old : Option (List ℕ)) (before : ℕ) (events : List Event) (result : Result A Status)
+    → IsErrAnd result (λ e. e ≡ status.Memory) → Prints old before old before events result
+Prints-memory old before events (Ok x) is = absurd is
+Prints-memory old before events (Err e) is = λ files faults.
+    subst (λ reason. Stops reason (outputs files faults old before) (outputs files faults old before) events) (sym is)
+    (Stops-memory (outputs files faults old before) events)
+
+-- a part that stops, with more events behind it
+pub Prints-stop : {A : Type 0} (old : Option (List ℕ)) (before : ℕ) (new : Option (List ℕ)) (after : ℕ) (xs ys : List Event) (reason : Status) (result : Result A Status)
+    → IsErrAnd result (λ e. e ≡ reason)
+    → ((files : Option (List File)) (faults : ℕ) → Stops reason (outputs files faults old before) (outputs files faults new after) xs)
+    → Prints old before new after (xs ++ ys) result
+Prints-stop old before new after xs ys reason (Ok x) is p = absurd is
+Prints-stop old before new after xs ys reason (Err e) is p = λ files faults.
+    subst (λ r. Stops r (outputs files faults old before) (outputs files faults new after) (xs ++ ys)) (sym is)
+    (Stops-more reason (outputs files faults old before) (outputs files faults new after) xs ys (p files faults))
+
+-- a part behind one that was made
+pub Prints-then : {A : Type 0} (old : Option (List ℕ)) (before : ℕ) (mid : Option (List ℕ)) (between : ℕ) (new : Option (List ℕ)) (after : ℕ)
+    (xs ys : List Event) (result : Result A Status)
+    → ((files : Option (List File)) (faults : ℕ) → Makes (outputs files faults old before) (outputs files faults mid between) xs)
+    → Prints mid between new after ys result → Prints old before new after (xs ++ ys) result
+Prints-then old before mid between new after xs ys result p q = λ files faults.
+    Does-after (outputs files faults old before) (outputs files faults mid between) (outputs files faults new after) xs ys result
+    (p files faults) (q files faults)
+
+-- the same events, told in another way
+pub Prints-same : {A : Type 0} (old : Option (List ℕ)) (before : ℕ) (new : Option (List ℕ)) (after : ℕ) (xs ys : List Event) (result : Result A Status)
+    → xs ≡ ys → Prints old before new after xs result → Prints old before new after ys result
+Prints-same old before new after xs ys result same p = subst (λ events. Prints old before new after events result) same p
+
+not_zero : (n : ℕ) → (n ≡ 0 → ⊥) → (n == 0) ≡ false
+not_zero n some = grind (arith, nat_tests)
+
+pub count_line-some : (word : List ℕ) (n : ℕ) → (n ≡ 0 → ⊥) → count_line word n ≡ Line (line.dropped word n) ∷ []
+count_line-some word n some = ap (λ b. cond b [] (Line (line.dropped word n) ∷ [])) (not_zero n some)
+
+-- The lines of lives.
+
+pub incomplete_lines-one : (life : receiver.Life) → life.done ≡ false → incomplete_lines (life ∷ []) ≡ Line (line.incomplete life.toi 1) ∷ []
+incomplete_lines-one life is = ap (λ b. map (λ (l : receiver.Life). Line (line.incomplete l.toi 1)) (cond (not b) (life ∷ []) [])) is
+
+pub incomplete_lines-append : (xs ys : List receiver.Life) → incomplete_lines (xs ++ ys) ≡ incomplete_lines xs ++ incomplete_lines ys
+incomplete_lines-append [] ys = refl
+incomplete_lines-append (x ∷ xs) ys =
+    let first : Event = Line (line.incomplete x.toi 1) in
+    elim (not x.done) as (λ b. map (λ (life : receiver.Life). Line (line.incomplete life.toi 1)) (cond b (x ∷ filter (λ life. not life.done) (xs ++ ys)) (filter (λ life. not life.done) (xs ++ ys)))
+    ≡ map (λ (life : receiver.Life). Line (line.incomplete life.toi 1)) (cond b (x ∷ filter (λ life. not life.done) xs) (filter (λ life. not life.done) xs)) ++ incomplete_lines ys)
+    [ true ↦ ap (λ events. first ∷ events) (incomplete_lines-append xs ys) | false ↦ incomplete_lines-append xs ys ]
+
+list_all-append : {A : Type 0} (test : A → Bool) (xs ys : List A) → list_all test (xs ++ ys) ≡ (list_all test xs && list_all test ys)
+list_all-append test [] ys = refl
+list_all-append test (x ∷ xs) ys =
+    elim (test x) as (λ b. (b && list_all test (xs ++ ys)) ≡ ((b && list_all test xs) && list_all test ys))
+    [ true ↦ list_all-append test xs ys | false ↦ refl ]
+
+and-true : (b : Bool) → (b && true) ≡ b
+and-true true = refl
+and-true false = refl
+
+-- the lives up to one, and it
+take_life : (lives : List Life) (i : ℕ) (life : Life) → i < length lives → life ≡ get_or lives i life
+    → lives_seen (take (i + 1) lives) ≡ lives_seen (take i lives) ++ (life_seen life ∷ [])
+take_life lives i life below at =
+    ap lives_seen (take_more lives i life below ∙ ap (λ (l : Life). take i lives ++ (l ∷ [])) (sym at))
+    ∙ map-append life_seen (take i lives) (life ∷ [])
+
+pub incomplete_lines-more : (lives : List Life) (i : ℕ) (life : Life) → i < length lives → life ≡ get_or lives i life
+    → incomplete_lines (lives_seen (take (i + 1) lives)) ≡ incomplete_lines (lives_seen (take i lives)) ++ incomplete_lines (life_seen life ∷ [])
+incomplete_lines-more lives i life below at =
+    ap incomplete_lines (take_life lives i life below at) ∙ incomplete_lines-append (lives_seen (take i lives)) (life_seen life ∷ [])
+
+-- the lines of the lives up to one, its line, and the lines of those behind it
+pub incomplete_lines-at : (lives : List Life) (i : ℕ) (life : Life) → i < length lives → life ≡ get_or lives i life
+    → incomplete_lines (lives_seen (take i lives)) ++ (incomplete_lines (life_seen life ∷ []) ++ incomplete_lines (lives_seen (drop (i + 1) lives)))
+    ≡ incomplete_lines (lives_seen lives)
+incomplete_lines-at lives i life below at =
+    sym (append_assoc (incomplete_lines (lives_seen (take i lives))) (incomplete_lines (life_seen life ∷ [])) (incomplete_lines (lives_seen (drop (i + 1) lives))))
+    ∙ (ap (λ events. events ++ incomplete_lines (lives_seen (drop (i + 1) lives))) (sym (incomplete_lines-more lives i life below at))
+    ∙ (sym (incomplete_lines-append (lives_seen (take (i + 1) lives)) (lives_seen (drop (i + 1) lives)))
+    ∙ ap incomplete_lines (sym (map-append life_seen (take (i + 1) lives) (drop (i + 1) lives)) ∙ ap lives_seen (take-append-drop (i + 1) lives))))
+
+pub all_done-more : (lives : List Life) (i : ℕ) (life : Life) → i < length lives → life ≡ get_or lives i life
+    → list_all (λ (l : receiver.Life). l.done) (lives_seen (take (i + 1) lives))
+    ≡ (list_all (λ (l : receiver.Life). l.done) (lives_seen (take i lives)) && life.done)
+all_done-more lives i life below at =
+    let done : receiver.Life → Bool = λ l. l.done in
+    ap (list_all done) (take_life lives i life below at)
+    ∙ (list_all-append done (lives_seen (take i lives)) (life_seen life ∷ [])
+    ∙ ap (λ b. list_all done (lives_seen (take i lives)) && b) (and-true life.done))

@@ -1,0 +1,213 @@
+-- How what was listened to, and the lines after it, make a run.
+use Rattle.std.proofs.Common.{◌≡◌, ℕ, ◌≤◌, Bool, true, false, cond, List, [], ◌∷◌, ◌++◌, length, Option, Some, None, Result, Ok, Err, refl, sym, ap, subst, ◌∙◌, append-nil, arith}
+use Rattle.std.specs.List.{list_all}
+use Rattle.mb_base.specs.Outside.{Becomes, Stays, Rose}
+use Rattle.mb_base.specs.Broadcast.{Record, Broadcast}
+use Rattle.mb_base.specs.declared.outcome.Status.{Status}
+use Rattle.mb_base.specs.declared.outcome.Status.TheVariants as status
+use Rattle.mb_rx.specs.declared.words.RxWords.{RxWords}
+use Rattle.mb_rx.specs.declared.cause.Cause.{Cause}
+use Rattle.mb_rx.specs.declared.cause.Ending.{Ending}
+use Rattle.mb_rx.specs.declared.cause.Ending.TheVariants.{EndsBy, BreaksAt}
+use Rattle.mb_rx.specs.declared.cause.TheConstants.{DATAGRAMS_MAX}
+use Rattle.mb_rx.specs.declared.session.Listened.{Listened}
+use Rattle.mb_rx.specs.Lines as line
+use Rattle.mb_rx.specs.Receiver.{Receiver, fresh}
+use Rattle.mb_rx.specs.Run.{Event, Put, Line, Ask, Session, session, end_events, is_complete}
+use Rattle.mb_rx.specs.Receive.{IsPutNext, Outputs, Makes, Stops, Takes, IsEnding, IsRun, Leaves, Receives, Refuses, events_by, known_of}
+use Rattle.mb_rx.specs.Listening.{Plays, Listens, after_records}
+use Rattle.mb_rx.specs.Outcome.{Runs}
+use Rattle.mb_rx.proofs.Making.{Makes-trans, Stops-after, Stops-memory}
+use Rattle.mb_rx.proofs.ListenLemmas.{Takes-none}
+use Rattle.mb_rx.proofs.Honest.{honest_puts}
+use Rattle.mb_rx.proofs.Ready.{each_ready_is_put}
+
+-- a session is what its records make of a fresh receiver
+pub session-is : (tsi : ℕ) (records : List Record) → session tsi records ≡ after_records tsi fresh records
+unfolding session
+session-is tsi records = refl
+
+-- the events of a session that goes on, ended, or broke
+events_by-none : (words : RxWords) (records : List Record) → (after_records words.tsi fresh records).events ≡ events_by words records None
+events_by-none words records = ap (λ (s : Session). s.events) (sym (session-is words.tsi records)) ∙ sym (append-nil (session words.tsi records).events)
+
+events_by-ended : (words : RxWords) (records : List Record) (cause : Cause)
+    → (after_records words.tsi fresh records).events ++ end_events (known_of words records (Some cause)) (after_records words.tsi fresh records).receiver (Some cause)
+    ≡ events_by words records (Some (EndsBy cause))
+events_by-ended words records cause =
+    ap (λ (s : Session). s.events ++ end_events (known_of words records (Some cause)) s.receiver (Some cause)) (sym (session-is words.tsi records))
+
+events_by-broken : (words : RxWords) (records : List Record) (place : ℕ)
+    → (after_records words.tsi fresh records).events ++ Line (line.broken place) ∷ [] ≡ events_by words records (Some (BreaksAt place))
+events_by-broken words records place = ap (λ (es : List Event). es ++ Line (line.broken place) ∷ []) (events_by-none words records)
+
+-- a run, from what it left: the laws of honest datagrams and of ready files hold of every run
+run_of : (words : RxWords) (a b : Option Broadcast) (x y : Outputs) (result : Status) (records : List Record) (ending : Option Ending)
+    → Becomes a b (Takes records) → length records ≤ DATAGRAMS_MAX → Becomes a b (λ _ air. IsEnding words records ending air)
+    → Leaves result words records ending x y → IsRun words a b x y result
+run_of words a b x y result records ending taken within ends left = record {
+  records = records;
+  taken = taken;
+  within = within;
+  ending = ending;
+  ends = ends;
+  left = left;
+  honest = λ sent honest. honest_puts words records ending sent honest;
+  ready = each_ready_is_put words records ending;
+}
+
+-- a status that stopped among the events of a run
+Leaves-stopped : (reason : Status) (words : RxWords) (records : List Record) (ending : Option Ending) (x y : Outputs)
+    → Stops reason x y (events_by words records ending) → Leaves reason words records ending x y
+Leaves-stopped status.StoreFault words records ending x y s = s
+Leaves-stopped status.OutFault words records ending x y s = s
+Leaves-stopped status.Memory words records ending x y s = s
+Leaves-stopped _ words records ending x y s = absurd s.stop
+
+Leaves-played : (A : Type 0) (reason : Status) (words : RxWords) (records : List Record) (x y : Outputs)
+    → Plays {A = A} x y (events_by words records None) (Err reason) → Leaves reason words records None x y
+Leaves-played A status.AirFault words records x y p = (refl, p)
+Leaves-played A status.StoreFault words records x y p = p
+Leaves-played A status.OutFault words records x y p = p
+Leaves-played A status.Memory words records x y p = p
+Leaves-played A _ words records x y p = absurd p.stop
+
+goes_on : (words : RxWords) (records : List Record) (a b : Option Broadcast) → Becomes a b (Takes records) → Becomes a b (λ _ air. IsEnding words records None air)
+goes_on words records None b p = tt
+goes_on words records (Some a) None p = absurd p
+goes_on words records (Some a) (Some b) p = tt
+
+-- the status says whether each life was handed out
+finishes : (all : Bool) (words : RxWords) (records : List Record) (cause : Cause) (x z : Outputs)
+    → Makes x z (events_by words records (Some (EndsBy cause))) → is_complete (session words.tsi records) ≡ all
+    → Leaves (cond all status.Done status.Incomplete) words records (Some (EndsBy cause)) x z
+finishes true words records cause x z made lives = record { ended = tt; all = made; lives = lives }
+finishes false words records cause x z made lives = record { ended = tt; all = made; lives = lives }
+
+-- listening handed on a status
+pub run-unheard : (words : RxWords) (a b : Option Broadcast) (new : Receiver) (x y : Outputs) (reason answer : Status) (result : Result Status Status)
+    → result ≡ Err answer → answer ≡ reason → Listens words a b fresh new x y (Err reason) → Runs words a b x y result
+run-unheard words a b new x y reason answer result is same l =
+    subst (λ (r : Result Status Status). Runs words a b x y r) (sym (is ∙ ap Err same))
+    (run_of words a b x y reason l.records None l.taken l.within (goes_on words l.records a b l.taken)
+    (Leaves-played Listened reason words l.records x y (subst (λ (es : List Event). Plays {A = Listened} x y es (Err reason)) (events_by-none words l.records) l.played)))
+
+-- the session ended, and its last lines were printed, or a status stopped them
+pub run-ended : (words : RxWords) (a b : Option Broadcast) (new : Receiver) (x y z : Outputs) (listened : Listened) (cause : Cause) (all : Bool) (result : Status)
+    → listened.ending ≡ EndsBy cause → Listens words a b fresh new x y (Ok listened)
+    → ((records : List Record) → length records ≡ listened.datagrams → Makes y z (end_events (known_of words records (Some cause)) new (Some cause)))
+    → all ≡ list_all (λ life. life.done) new.lives → result ≡ cond all status.Done status.Incomplete → IsRun words a b x z result
+run-ended words a b new x y z listened cause all result by l printed complete is =
+    let records = l.records in
+    let heard = (after_records words.tsi fresh records).receiver in
+    let ended : Becomes a b (λ _ air. IsEnding words records (Some (EndsBy cause)) air) =
+    subst (λ (e : Ending). Becomes a b (λ _ air. IsEnding words records (Some e) air)) by l.heard.2 in
+    let made : Makes x z (events_by words records (Some (EndsBy cause))) =
+    subst (λ (es : List Event). Makes x z es) (events_by-ended words records cause)
+    (Makes-trans x y z _ _ l.played (subst (λ (r : Receiver). Makes y z (end_events (known_of words records (Some cause)) r (Some cause))) l.heard.0 (printed records (sym l.heard.1)))) in
+    let lives : is_complete (session words.tsi records) ≡ all =
+    ap (λ (s : Session). is_complete s) (session-is words.tsi records) ∙ (ap (λ (r : Receiver). list_all (λ life. life.done) r.lives) (sym l.heard.0) ∙ sym complete) in
+    subst (λ (s : Status). IsRun words a b x z s) (sym is)
+    (run_of words a b x z (cond all status.Done status.Incomplete) records (Some (EndsBy cause)) l.taken l.within ended (finishes all words records cause x z made lives))
+
+pub run-unended : (words : RxWords) (a b : Option Broadcast) (new : Receiver) (x y z : Outputs) (listened : Listened) (cause : Cause) (reason answer : Status) (result : Result Status Status)
+    → listened.ending ≡ EndsBy cause → Listens words a b fresh new x y (Ok listened)
+    → ((records : List Record) → length records ≡ listened.datagrams → Stops reason y z (end_events (known_of words records (Some cause)) new (Some cause)))
+    → result ≡ Err answer → answer ≡ reason → Runs words a b x z result
+run-unended words a b new x y z listened cause reason answer result by l printed is same =
+    let records = l.records in
+    let ended : Becomes a b (λ _ air. IsEnding words records (Some (EndsBy cause)) air) =
+    subst (λ (e : Ending). Becomes a b (λ _ air. IsEnding words records (Some e) air)) by l.heard.2 in
+    let stopped : Stops reason x z (events_by words records (Some (EndsBy cause))) =
+    subst (λ (es : List Event). Stops reason x z es) (events_by-ended words records cause)
+    (Stops-after reason x y z _ _ l.played (subst (λ (r : Receiver). Stops reason y z (end_events (known_of words records (Some cause)) r (Some cause))) l.heard.0 (printed records (sym l.heard.1)))) in
+    subst (λ (r : Result Status Status). Runs words a b x z r) (sym (is ∙ ap Err same))
+    (run_of words a b x z reason records (Some (EndsBy cause)) l.taken l.within ended (Leaves-stopped reason words records (Some (EndsBy cause)) x z stopped))
+
+-- the trace broke, and the line that says so was printed, or a status stopped it
+pub run-broken : (words : RxWords) (a b : Option Broadcast) (new : Receiver) (x y z : Outputs) (listened : Listened) (place : ℕ)
+    → listened.ending ≡ BreaksAt place → Listens words a b fresh new x y (Ok listened) → Makes y z (Line (line.broken place) ∷ [])
+    → IsRun words a b x z status.TraceBroken
+run-broken words a b new x y z listened place by l printed =
+    let records = l.records in
+    let broke : Becomes a b (λ _ air. IsEnding words records (Some (BreaksAt place)) air) =
+    subst (λ (e : Ending). Becomes a b (λ _ air. IsEnding words records (Some e) air)) by l.heard.2 in
+    let made : Makes x z (events_by words records (Some (BreaksAt place))) =
+    subst (λ (es : List Event). Makes x z es) (events_by-broken words records place) (Makes-trans x y z _ _ l.played printed) in
+    run_of words a b x z status.TraceBroken records (Some (BreaksAt place)) l.taken l.within broke (tt, made)
+
+pub run-unbroken : (words : RxWords) (a b : Option Broadcast) (new : Receiver) (x y z : Outputs) (listened : Listened) (place : ℕ) (reason answer : Status) (result : Result Status Status)
+    → listened.ending ≡ BreaksAt place → Listens words a b fresh new x y (Ok listened) → Stops reason y z (Line (line.broken place) ∷ [])
+    → result ≡ Err answer → answer ≡ reason → Runs words a b x z result
+run-unbroken words a b new x y z listened place reason answer result by l stopped is same =
+    let records = l.records in
+    let broke : Becomes a b (λ _ air. IsEnding words records (Some (BreaksAt place)) air) =
+    subst (λ (e : Ending). Becomes a b (λ _ air. IsEnding words records (Some e) air)) by l.heard.2 in
+    let stop : Stops reason x z (events_by words records (Some (BreaksAt place))) =
+    subst (λ (es : List Event). Stops reason x z es) (events_by-broken words records place) (Stops-after reason x y z _ _ l.played stopped) in
+    subst (λ (r : Result Status Status). Runs words a b x z r) (sym (is ∙ ap Err same))
+    (run_of words a b x z reason records (Some (BreaksAt place)) l.taken l.within broke (Leaves-stopped reason words records (Some (BreaksAt place)) x z stop))
+
+pub from_fresh : (words : RxWords) (a b : Option Broadcast) (old new : Receiver) (x y : Outputs) (result : Result Listened Status) → old ≡ fresh
+    → Listens words a b old new x y result → Listens words a b fresh new x y result
+from_fresh words a b old new x y result e l = subst (λ (r : Receiver). Listens words a b r new x y result) e l
+
+-- the air never stops a store or a sink
+pub no_air_fault : (x y : Outputs) (events : List Event) (reason answer : Status) (result : Result Status Status) → result ≡ Err answer → answer ≡ reason
+    → Stops reason x y events → result ≡ Err status.AirFault → ⊥
+no_air_fault x y events reason answer result is same stopped air =
+    let e : reason ≡ status.AirFault = cc in
+    let s : Stops status.AirFault x y events = subst (λ (r : Status). Stops r x y events) e stopped in
+    s.stop
+
+-- ---- words that are refused, and want of memory before any run
+
+Stays-same : (air : Option Broadcast) → Stays air air
+Stays-same None = tt
+Stays-same (Some air) = refl
+
+-- a line alone has no file to put
+no_put_left : (later : List Event) → [] ≡ later → IsPutNext later → ⊥
+no_put_left later e next = subst (λ (es : List Event). IsPutNext es) (sym e) next
+
+no_put : (made later : List Event) (text : List ℕ) → Line text ∷ [] ≡ made ++ later → IsPutNext later → ⊥
+no_put [] [] text e next = next
+no_put [] (Put file ∷ later) text e next = cc
+no_put [] (Line other ∷ later) text e next = next
+no_put [] (Ask server request ∷ later) text e next = next
+no_put (first ∷ []) later text e next = no_put_left later (cc) next
+no_put (first ∷ second ∷ made) later text e next = cc
+
+Refuses-stopped : (reason : Status) (x y : Outputs) → Stops reason x y (Line line.usage ∷ []) → Refuses reason x y
+Refuses-stopped status.StoreFault x y s = no_put s.made s.later line.usage s.split s.stop.0
+Refuses-stopped status.OutFault x y s = s
+Refuses-stopped status.Memory x y s = s
+Refuses-stopped _ x y s = absurd s.stop
+
+pub refused_words : (words : Option RxWords) (air : Option Broadcast) (x y : Outputs) (result : Status) → words ≡ None → Refuses result x y → Receives words air air x y result
+refused_words words air x y result none refused =
+    subst (λ (w : Option RxWords). Receives w air air x y result) (sym none) (Stays-same air, refused)
+
+pub unprinted : (words : Option RxWords) (air : Option Broadcast) (x y : Outputs) (reason : Status) → words ≡ None → Stops reason x y (Line line.usage ∷ []) → Receives words air air x y reason
+unprinted words air x y reason none stopped = refused_words words air x y reason none (Refuses-stopped reason x y stopped)
+
+pub no_memory : (words : Option RxWords) (air : Option Broadcast) (x : Outputs) → Receives words air air x x status.Memory
+no_memory None air x = (Stays-same air, Stops-memory x _)
+no_memory (Some words) air x = run_of words air air x x status.Memory [] None (Takes-none air) (omega arith) (goes_on words [] air air (Takes-none air)) (Stops-memory x _)
+
+-- whose failure a stop is
+pub stop_of_store : (x y : Outputs) (events : List Event) (reason : Status) → reason ≡ status.StoreFault → Stops reason x y events → Rose x.store_faults y.store_faults
+stop_of_store x y events reason e stopped = let s : Stops status.StoreFault x y events = subst (λ (r : Status). Stops r x y events) e stopped in s.stop.2
+
+pub stop_of_sink : (x y : Outputs) (events : List Event) (reason : Status) → reason ≡ status.OutFault → Stops reason x y events → Rose x.sink_faults y.sink_faults
+stop_of_sink x y events reason e stopped = let s : Stops status.OutFault x y events = subst (λ (r : Status). Stops r x y events) e stopped in s.stop.1
+
+pub stop_of_air : (x y : Outputs) (events : List Event) (reason : Status) → reason ≡ status.AirFault → Stops reason x y events → ⊥
+stop_of_air x y events reason e stopped = let s : Stops status.AirFault x y events = subst (λ (r : Status). Stops r x y events) e stopped in s.stop
+
+-- the faults of a run
+pub run_of_store : (words : RxWords) (a b : Option Broadcast) (x y : Outputs) (result : Status) → result ≡ status.StoreFault → IsRun words a b x y result → Rose x.store_faults y.store_faults
+run_of_store words a b x y result e r = let s : IsRun words a b x y status.StoreFault = subst (λ (t : Status). IsRun words a b x y t) e r in s.left.stop.2
+
+pub run_of_sink : (words : RxWords) (a b : Option Broadcast) (x y : Outputs) (result : Status) → result ≡ status.OutFault → IsRun words a b x y result → Rose x.sink_faults y.sink_faults
+run_of_sink words a b x y result e r = let s : IsRun words a b x y status.OutFault = subst (λ (t : Status). IsRun words a b x y t) e r in s.left.stop.1

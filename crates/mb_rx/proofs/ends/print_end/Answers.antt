@@ -1,0 +1,45 @@
+use Rattle.std.proofs.Common.{◌≡◌, ℕ, List, [], ◌∷◌, ◌++◌, sym, ap, ◌∙◌}
+use Rattle.mb_rx.specs.Lines as line
+use Rattle.mb_rx.specs.Receiver as receiver
+use Rattle.mb_rx.specs.Run.{Event, Line, drop_lines, incomplete_lines}
+use Rattle.mb_rx.specs.Seen.{lives_seen}
+use Rattle.mb_rx.specs.declared.cause.Cause.{Cause}
+use Rattle.mb_rx.specs.declared.drops.Drops.{Drops}
+use Rattle.mb_rx.proofs.Printing.{Prints-stop, Prints-then, Prints-same}
+use Rattle.mb_rx.proofs.ends.print_end.Goals as goal
+
+-- the end line, by what its parts are
+end_line_is : (cause : Cause) (m moment n datagrams count : ℕ) (shown bytes : List ℕ) (rest : List Event)
+    → shown ≡ bytes → bytes ≡ line.end cause m n → m ≡ moment → n ≡ datagrams → count ≡ datagrams
+    → (Line shown ∷ []) ++ rest ≡ Line (line.end cause moment count) ∷ rest
+end_line_is cause m moment n datagrams count shown bytes rest as_bytes is at of counted =
+    ap (λ (text : List ℕ). Line text ∷ rest) (as_bytes ∙ (is
+    ∙ (ap (λ (k : ℕ). line.end cause k n) at ∙ ap (line.end cause moment) (of ∙ sym counted))))
+
+pub returns-in_err-print-clause-printed : goal.returns-in_err-print-clause-printed
+returns-in_err-print-clause-printed g c = λ records count.
+    Prints-same _ _ _ _ _ _ c.from_residual-in_err-print.result
+    (end_line_is c.args.cause _ _ _ _ _ _ _ (drop_lines c.args.table.now.drops ++ incomplete_lines c.args.table.now.lives)
+    c.as_str.ensures.value c.in_ok-line.ensures c.end_moment-moment.ensures c.from.ensures count)
+    (Prints-stop _ _ _ _ _ _ _ c.from_residual-in_err-print.result c.from_residual-in_err-print.ensures.1 c.in_err-print.ensures.printed)
+
+pub returns-in_err-print_drops-clause-printed : goal.returns-in_err-print_drops-clause-printed
+returns-in_err-print_drops-clause-printed g c = λ records count.
+    Prints-same _ _ _ _ _ _ c.from_residual-in_err-print_drops.result
+    (end_line_is c.args.cause _ _ _ _ _ _ _ (drop_lines c.args.table.now.drops ++ incomplete_lines c.args.table.now.lives)
+    c.as_str.ensures.value c.in_ok-line.ensures c.end_moment-moment.ensures c.from.ensures count)
+    (Prints-then _ _ _ _ _ _ _ _ c.from_residual-in_err-print_drops.result c.in_ok-print.ensures.printed
+    (Prints-same _ _ _ _ _ _ c.from_residual-in_err-print_drops.result
+    (ap (λ (drops : Drops). drop_lines drops ++ incomplete_lines c.args.table.now.lives) c.drops.ensures)
+    (Prints-stop _ _ _ _ _ _ _ c.from_residual-in_err-print_drops.result c.from_residual-in_err-print_drops.ensures.1 c.in_err-print_drops.ensures.printed)))
+
+pub returns-clause-printed : goal.returns-clause-printed
+returns-clause-printed g c = λ records count.
+    Prints-same _ _ _ _ _ _ c.print_incomplete.result
+    (end_line_is c.args.cause _ _ _ _ _ _ _ (drop_lines c.args.table.now.drops ++ incomplete_lines c.args.table.now.lives)
+    c.as_str.ensures.value c.in_ok-line.ensures c.end_moment-moment.ensures c.from.ensures count)
+    (Prints-then _ _ _ _ _ _ _ _ c.print_incomplete.result c.in_ok-print.ensures.printed
+    (Prints-same _ _ _ _ _ _ c.print_incomplete.result
+    (ap (λ (drops : Drops). drop_lines drops ++ incomplete_lines (lives_seen c.lives.result.now)) c.drops.ensures
+    ∙ ap (λ (lives : List receiver.Life). drop_lines c.args.table.now.drops ++ incomplete_lines lives) c.lives.ensures)
+    (Prints-then _ _ _ _ _ _ _ _ c.print_incomplete.result c.in_ok-print_drops.ensures.printed c.print_incomplete.ensures.printed)))

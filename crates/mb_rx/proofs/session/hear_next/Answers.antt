@@ -1,0 +1,41 @@
+use Rattle.std.proofs.Common.{[], ◌∷◌, refl, arith}
+use Rattle.std.proofs.lemmas.Result.{err_from_is_err_and}
+use Rattle.mb_rx.proofs.Making.{Makes-nil}
+use Rattle.mb_rx.proofs.ListenLemmas.{Hears-datagram, Hears-quiet, Hears-ended, Hears-broken, Hears-failed, hears-stopped, hears-ending}
+use Rattle.mb_rx.proofs.session.hear_next.Goals as goal
+
+pub returns-in_err-hear_datagram-in-Datagram-clause-hears :
+    goal.returns-in_err-hear_datagram-in-Datagram-clause-hears
+returns-in_err-hear_datagram-in-Datagram-clause-hears g c =
+    let p = err_from_is_err_and c.from_residual.result c.from_residual.ensures.1 in
+    hears-stopped c.args.words.now _ _ _ _ _ _ _ _ p.0 c.from_residual.result
+    (Hears-datagram c.args.words.now.until c.in-Datagram.at c.in-Datagram.len _ _ _ c.in-Datagram.ensures.heard)
+    p.1 p.2 c.in_err-hear_datagram-in-Datagram.ensures.made
+
+pub returns-in_ok-hear_datagram-in-Datagram-clause-hears :
+    goal.returns-in_ok-hear_datagram-in-Datagram-clause-hears
+returns-in_ok-hear_datagram-in-Datagram-clause-hears g c = record {
+  records = record { at = c.in-Datagram.at; bytes = _ } ∷ [];
+  taken = Hears-datagram c.args.words.now.until c.in-Datagram.at c.in-Datagram.len _ _ _ c.in-Datagram.ensures.heard;
+  one = omega arith;
+  heard = (refl, c.in_ok-hear_datagram-in-Datagram.ensures.heard);
+  played = c.in_ok-hear_datagram-in-Datagram.ensures.made;
+}
+
+pub returns-in-Quiet-clause-hears : goal.returns-in-Quiet-clause-hears
+returns-in-Quiet-clause-hears g c = hears-ending c.args.words.now _ _ _ _ _ (Hears-quiet c.args.words.now c.next.new.buf _ _ c.in-Quiet.ensures.heard)
+
+pub returns-in-Ended-clause-hears : goal.returns-in-Ended-clause-hears
+returns-in-Ended-clause-hears g c = hears-ending c.args.words.now _ _ _ _ _ (Hears-ended c.args.words.now c.next.new.buf _ _ c.in-Ended.ensures.heard)
+
+pub returns-in-Broken-clause-hears : goal.returns-in-Broken-clause-hears
+returns-in-Broken-clause-hears g c = hears-ending c.args.words.now _ _ _ _ _ (Hears-broken c.args.words.now c.in-Broken.place c.next.new.buf _ _ c.in-Broken.ensures.heard)
+
+pub returns-in-Failed-clause-hears : goal.returns-in-Failed-clause-hears
+returns-in-Failed-clause-hears g c = record {
+  records = [];
+  taken = Hears-failed c.args.words.now.until c.next.new.buf _ _ c.in-Failed.ensures.heard;
+  one = omega arith;
+  heard = tt;
+  played = Makes-nil _;
+}

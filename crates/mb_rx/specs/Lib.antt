@@ -1,0 +1,12 @@
+pub mod Words
+pub mod Datagram
+pub mod Receiver
+pub mod Lines
+pub mod Run
+pub mod SentSet
+pub mod Receive
+pub mod Seen
+pub mod Steps
+pub mod Heard
+pub mod Listening
+pub mod Outcome

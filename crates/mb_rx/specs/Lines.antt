@@ -1,0 +1,52 @@
+-- The lines that the receiver prints. Each ends with a line feed, numbers are decimal without leading zeros.
+use Rattle.std.specs.Prelude.{ℕ, ◌/◌, ◌%◌, ◌==◌, ◌+◌, ◌||◌, nat_lt, if◌then◌else◌, List, [], ◌∷◌, ◌++◌, flat_map, codes, decimal}
+use Rattle.mb_rx.specs.declared.cause.Cause.{Cause}
+use Rattle.mb_rx.specs.declared.cause.Cause.TheVariants.{Quiet, Ended, Closed, Limit}
+use Rattle.mb_rx.specs.declared.lives.Report.{Report}
+
+-- one of sixteen digits, in upper case
+abbrev pub hex_digit : ℕ → ℕ
+hex_digit n = if nat_lt n 10 then 48 + n else 55 + n
+
+-- a byte of a location: as it is where it is visible ASCII and no percent sign, else by two digits
+abbrev pub location_byte : ℕ → List ℕ
+location_byte b =
+    if nat_lt b 0x21 || nat_lt 0x7e b || (b == 0x25) then 0x25 ∷ hex_digit (b / 16) ∷ hex_digit (b % 16) ∷ []
+    else b ∷ []
+
+abbrev pub location_text : List ℕ → List ℕ
+location_text location = flat_map location_byte location
+
+abbrev pub usage : List ℕ
+usage = codes "usage\n"
+
+-- the entries that started and prolonged no life
+unfoldable pub others : Report → List ℕ
+others r = codes "conflicting " ++ (decimal r.conflicting ++ (codes " refused " ++ (decimal r.refused
+    ++ (codes " norow " ++ (decimal r.norow ++ (codes " full " ++ decimal r.full))))))
+
+abbrev pub instance : ℕ → Report → List ℕ
+instance id r = codes "fdt " ++ (decimal id ++ (codes " started " ++ (decimal r.started
+    ++ (codes " prolonged " ++ (decimal r.prolonged ++ (codes " " ++ (others r ++ codes "\n")))))))
+
+abbrev pub stored : ℕ → ℕ → List ℕ → List ℕ
+stored toi len location = codes "stored " ++ (decimal toi ++ (codes " " ++ (decimal len ++ (codes " " ++ (location_text location ++ codes "\n")))))
+
+abbrev pub broken : ℕ → List ℕ
+broken place = codes "broken " ++ (decimal place ++ codes "\n")
+
+abbrev pub cause_word : Cause → List ℕ
+cause_word Quiet = codes "quiet"
+cause_word Ended = codes "ended"
+cause_word Closed = codes "closed"
+cause_word Limit = codes "limit"
+
+abbrev pub end : Cause → ℕ → ℕ → List ℕ
+end cause moment datagrams = codes "end " ++ (cause_word cause ++ (codes " " ++ (decimal moment
+    ++ (codes " datagrams " ++ (decimal datagrams ++ codes "\n")))))
+
+abbrev pub dropped : List ℕ → ℕ → List ℕ
+dropped word n = codes "dropped " ++ (word ++ (codes " " ++ (decimal n ++ codes "\n")))
+
+abbrev pub incomplete : ℕ → ℕ → List ℕ
+incomplete toi missing = codes "incomplete " ++ (decimal toi ++ (codes " " ++ (decimal missing ++ codes "\n")))

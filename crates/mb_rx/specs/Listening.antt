@@ -1,0 +1,61 @@
+-- What listening to a session did, datagram by datagram and as a whole.
+use Rattle.std.specs.Prelude.{◌≡◌, ℕ, ◌≤◌, List, [], length, fold, Option, Some, None, Result, Ok, Err, ⊤}
+use Rattle.mb_base.specs.Outside.{Becomes}
+use Rattle.mb_base.specs.Broadcast.{Record, Broadcast}
+use Rattle.mb_base.specs.declared.outcome.Status.{Status}
+use Rattle.mb_base.specs.declared.outcome.Status.TheVariants as status
+use Rattle.mb_rx.specs.declared.cause.Ending.{Ending}
+use Rattle.mb_rx.specs.declared.cause.TheConstants.{DATAGRAMS_MAX}
+use Rattle.mb_rx.specs.declared.session.Listened.{Listened}
+use Rattle.mb_rx.specs.declared.words.RxWords.{RxWords}
+use Rattle.mb_rx.specs.Receiver.{Receiver}
+use Rattle.mb_rx.specs.Run.{Session, Event, after_record}
+use Rattle.mb_rx.specs.Receive.{Outputs, Makes, Stops, Takes, IsEnding}
+
+-- What a part of a session makes: its events, or those up to where a status stops it. A failing air stops
+-- behind all of them.
+abbrev pub Plays : {A : Type 0} → Outputs → Outputs → List Event → Result A Status → Type 0
+Plays before after events (Ok x) = Makes before after events
+Plays before after events (Err status.AirFault) = Makes before after events
+Plays before after events (Err reason) = Stops reason before after events
+
+-- what the records make of a receiver
+abbrev pub after_records : ℕ → Receiver → List Record → Session
+after_records tsi r records = fold (after_record tsi) (record { receiver = r; events = [] }) records
+
+-- The next datagram was heard and its events were made, or there is none.
+abbrev pub IsNext : RxWords → List Record → Option Broadcast → Option Broadcast → Receiver → Receiver → Result (Option Ending) Status → Type 0
+IsNext words records air_before air_after expected new (Ok None) = (length records ≡ 1) × (new ≡ expected)
+IsNext words records air_before air_after expected new (Ok (Some ending)) = (records ≡ []) × (new ≡ expected)
+    × Becomes air_before air_after (λ _ air. IsEnding words [] (Some ending) air)
+IsNext words records air_before air_after expected new (Err reason) = ⊤
+
+pub record Hears (words : RxWords) (air_before air_after : Option Broadcast) (old new : Receiver) (before after : Outputs)
+    (result : Result (Option Ending) Status) : Type 0 where
+  pub records : List Record
+  pub taken : Becomes air_before air_after (Takes records)
+  pub one : length records ≤ 1
+  pub heard : IsNext words records air_before air_after (after_records words.tsi old records).receiver new result
+  pub played : Plays before after (after_records words.tsi old records).events result
+
+-- How listening ended: every datagram that came was heard.
+abbrev pub IsListened : RxWords → List Record → Option Broadcast → Option Broadcast → Receiver → Receiver → Result Listened Status → Type 0
+IsListened words records air_before air_after expected new (Ok listened) = (new ≡ expected) × (listened.datagrams ≡ length records)
+    × Becomes air_before air_after (λ _ air. IsEnding words records (Some listened.ending) air)
+IsListened words records air_before air_after expected new (Err reason) = ⊤
+
+pub record Listens (words : RxWords) (air_before air_after : Option Broadcast) (old new : Receiver) (before after : Outputs)
+    (result : Result Listened Status) : Type 0 where
+  pub records : List Record
+  pub taken : Becomes air_before air_after (Takes records)
+  pub within : length records ≤ DATAGRAMS_MAX
+  pub heard : IsListened words records air_before air_after (after_records words.tsi old records).receiver new result
+  pub played : Plays before after (after_records words.tsi old records).events result
+
+-- so many datagrams were taken, at most, and each was heard
+pub record IsHeardSoFar (words : RxWords) (datagrams : ℕ) (air_before air_after : Option Broadcast) (old new : Receiver) (before after : Outputs) : Type 0 where
+  pub records : List Record
+  pub taken : Becomes air_before air_after (Takes records)
+  pub number : length records ≡ datagrams
+  pub heard : new ≡ (after_records words.tsi old records).receiver
+  pub made : Makes before after (after_records words.tsi old records).events

@@ -1,0 +1,10 @@
+-- How the run of good words ends, whether its last part succeeded or handed on a status.
+use Rattle.std.specs.Prelude.{Option, Result, Ok, Err}
+use Rattle.mb_base.specs.Broadcast.{Broadcast}
+use Rattle.mb_base.specs.declared.outcome.Status.{Status}
+use Rattle.mb_rx.specs.declared.words.RxWords.{RxWords}
+use Rattle.mb_rx.specs.Receive.{Outputs, IsRun}
+
+abbrev pub Runs : RxWords → Option Broadcast → Option Broadcast → Outputs → Outputs → Result Status Status → Type 0
+Runs words air_before air_after before after (Ok result) = IsRun words air_before air_after before after result
+Runs words air_before air_after before after (Err result) = IsRun words air_before air_after before after result

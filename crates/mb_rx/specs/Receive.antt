@@ -1,0 +1,179 @@
+-- What a call of `receive` leaves behind: the run that it made, as far as it came.
+use Rattle.std.specs.Prelude.{◌≡◌, ℕ, ◌≤◌, Bool, true, false, List, [], ◌∷◌, ◌++◌, length, Option, Some, None, Result, Ok, Err, Contains, ⊤}
+use Rattle.std.specs.List.{AllByRecursion}
+use Rattle.mb_base.specs.Outside.{Grows, Becomes, Stays, Rose}
+use Rattle.mb_base.specs.Files.{File}
+use Rattle.mb_base.specs.Broadcast.{Record, Broadcast, IsPast}
+use Rattle.mb_base.specs.declared.outcome.Status.{Status}
+use Rattle.mb_base.specs.declared.outcome.Status.TheVariants as status
+use Rattle.mb_rx.specs.declared.cause.Cause.{Cause}
+use Rattle.mb_rx.specs.declared.cause.Cause.TheVariants.{Quiet, Ended, Closed, Limit}
+use Rattle.mb_rx.specs.declared.cause.Ending.{Ending}
+use Rattle.mb_rx.specs.declared.cause.Ending.TheVariants.{EndsBy, BreaksAt}
+use Rattle.mb_rx.specs.declared.cause.TheConstants.{DATAGRAMS_MAX}
+use Rattle.mb_rx.specs.declared.words.RxWords.{RxWords}
+use Rattle.mb_rx.specs.Lines as line
+use Rattle.mb_rx.specs.Receiver.{Life, step, is_ready}
+use Rattle.mb_rx.specs.Run.{Event, Put, Line, Ask, Known, session, events_of, is_complete, file_of}
+use Rattle.mb_rx.specs.SentSet.{SentSet, IsHonest, IsSentFile}
+
+-- What events leave in the store and the sink.
+
+-- the files that events put
+abbrev pub puts_in : List Event → List File
+puts_in [] = []
+puts_in (Put file ∷ events) = file ∷ puts_in events
+puts_in (Line text ∷ events) = puts_in events
+puts_in (Ask server request ∷ events) = puts_in events
+
+-- the bytes that they print
+abbrev pub text_in : List Event → List ℕ
+text_in [] = []
+text_in (Put file ∷ events) = text_in events
+text_in (Line text ∷ events) = text ++ text_in events
+text_in (Ask server request ∷ events) = text_in events
+
+-- what is told of a store's files and of a sink's bytes, and how often each has failed
+pub record Outputs : Type 0 where
+  pub files : Option (List File)
+  pub store_faults : ℕ
+  pub written : Option (List ℕ)
+  pub sink_faults : ℕ
+
+abbrev pub outputs : Option (List File) → ℕ → Option (List ℕ) → ℕ → Outputs
+outputs files store_faults written sink_faults = record { files = files; store_faults = store_faults; written = written; sink_faults = sink_faults }
+
+-- the store and the sink grow by what the events put and print
+pub record Makes (before after : Outputs) (events : List Event) : Type 0 where
+  pub put : Grows before.files after.files (puts_in events)
+  pub printed : Grows before.written after.written (text_in events)
+  pub store_later : before.store_faults ≤ after.store_faults
+  pub sink_later : before.sink_faults ≤ after.sink_faults
+
+abbrev pub IsPutNext : List Event → Type 0
+IsPutNext [] = ⊥
+IsPutNext (Put file ∷ events) = ⊤
+IsPutNext (Line text ∷ events) = ⊥
+IsPutNext (Ask server request ∷ events) = ⊥
+
+-- a line is next, and the bytes are a beginning of it
+abbrev pub IsCutLine : List Event → List ℕ → Type 0
+IsCutLine [] cut = ⊥
+IsCutLine (Put file ∷ events) cut = ⊥
+IsCutLine (Line text ∷ events) cut = (rest : List ℕ) × (text ≡ cut ++ rest)
+IsCutLine (Ask server request ∷ events) cut = ⊥
+
+-- Where a status stops a run: a store that failed at the next file, a sink that failed in the next line, want
+-- of memory anywhere between two events.
+abbrev pub StopsAt : Status → Outputs → Outputs → List Event → List ℕ → Type 0
+StopsAt status.StoreFault before after later cut = IsPutNext later × (cut ≡ []) × Rose before.store_faults after.store_faults
+StopsAt status.OutFault before after later cut = IsCutLine later cut × Rose before.sink_faults after.sink_faults
+StopsAt status.Memory before after later cut = cut ≡ []
+StopsAt _ before after later cut = ⊥
+
+-- The store and the sink grow by what the first of the events put and print, and a beginning of the next line.
+pub record Stops (reason : Status) (before after : Outputs) (events : List Event) : Type 0 where
+  pub made : List Event
+  pub later : List Event
+  pub cut : List ℕ
+  pub split : events ≡ made ++ later
+  pub stop : StopsAt reason before after later cut
+  pub put : Grows before.files after.files (puts_in made)
+  pub printed : Grows before.written after.written (text_in made ++ cut)
+  pub store_later : before.store_faults ≤ after.store_faults
+  pub sink_later : before.sink_faults ≤ after.sink_faults
+
+-- all of the events are made, or a status stops them
+abbrev pub Does : {A : Type 0} → Outputs → Outputs → List Event → Result A Status → Type 0
+Does before after events (Ok x) = Makes before after events
+Does before after events (Err reason) = Stops reason before after events
+
+-- How a session goes.
+
+-- no record is left, and the trace is broken there, or it is not
+pub record IsOver (broken : Option ℕ) (air : Broadcast) : Type 0 where
+  pub none_left : air.records ≡ []
+  pub end : air.broken ≡ broken
+
+-- what the air has when a session ends so, or goes on
+abbrev pub IsEnding : RxWords → List Record → Option Ending → Broadcast → Type 0
+IsEnding words records None air = ⊤
+IsEnding words records (Some (EndsBy Quiet)) air = IsPast words.until air.records
+IsEnding words records (Some (EndsBy Ended)) air = IsOver None air
+IsEnding words records (Some (EndsBy Closed)) air = ⊥
+IsEnding words records (Some (EndsBy Limit)) air = length records ≡ DATAGRAMS_MAX
+IsEnding words records (Some (BreaksAt place)) air = IsOver (Some place) air
+
+-- these records were taken, and nothing else changed
+abbrev pub Takes : List Record → Broadcast → Broadcast → Type 0
+Takes records old new = old ≡ record new { records = records ++ new.records }
+
+-- what is known of a run whose words name no tables and no server
+abbrev pub known_of : RxWords → List Record → Option Cause → Known
+known_of words records cause = record { words = words; tables = []; records = records; cause = cause; draws = []; answers = [] }
+
+-- the events of a run that came so far
+abbrev pub events_by : RxWords → List Record → Option Ending → List Event
+events_by words records None = events_of (known_of words records None)
+events_by words records (Some (EndsBy cause)) = events_of (known_of words records (Some cause))
+events_by words records (Some (BreaksAt place)) = events_of (known_of words records None) ++ Line (line.broken place) ∷ []
+
+-- What a status says.
+
+abbrev pub IsEnded : Option Ending → Type 0
+IsEnded None = ⊥
+IsEnded (Some (EndsBy cause)) = ⊤
+IsEnded (Some (BreaksAt place)) = ⊥
+
+abbrev pub IsBroken : Option Ending → Type 0
+IsBroken None = ⊥
+IsBroken (Some (EndsBy cause)) = ⊥
+IsBroken (Some (BreaksAt place)) = ⊤
+
+-- every event of the ended session was made, and each life was handed out, or some was not
+pub record Finishes (complete : Bool) (words : RxWords) (records : List Record) (ending : Option Ending) (before after : Outputs) : Type 0 where
+  pub ended : IsEnded ending
+  pub all : Makes before after (events_by words records ending)
+  pub lives : is_complete (session words.tsi records) ≡ complete
+
+abbrev pub Leaves : Status → RxWords → List Record → Option Ending → Outputs → Outputs → Type 0
+Leaves status.Done words records ending before after = Finishes true words records ending before after
+Leaves status.Incomplete words records ending before after = Finishes false words records ending before after
+Leaves status.TraceBroken words records ending before after = IsBroken ending × Makes before after (events_by words records ending)
+Leaves status.AirFault words records ending before after = (ending ≡ None) × Makes before after (events_by words records ending)
+Leaves status.StoreFault words records ending before after = Stops status.StoreFault before after (events_by words records ending)
+Leaves status.OutFault words records ending before after = Stops status.OutFault before after (events_by words records ending)
+Leaves status.Memory words records ending before after = Stops status.Memory before after (events_by words records ending)
+Leaves _ words records ending before after = ⊥
+
+-- each life that became ready, after whichever record, has its file put
+abbrev pub PutsEachReady : ℕ → List Record → List File → Type 0
+PutsEachReady tsi records puts = (before after : List Record) (heard : Record) (life : Life)
+    → records ≡ before ++ heard ∷ after
+    → Contains (step tsi (session tsi before).receiver heard).receiver.lives life → is_ready life ≡ true
+    → Contains puts (file_of life)
+
+-- The run of good words. It stands on the records that were taken, which are those that the air told of.
+pub record IsRun (words : RxWords) (air_before air_after : Option Broadcast) (before after : Outputs) (result : Status) : Type 0 where
+  pub records : List Record
+  pub taken : Becomes air_before air_after (Takes records)
+  pub within : length records ≤ DATAGRAMS_MAX
+  -- none where the session had not ended
+  pub ending : Option Ending
+  pub ends : Becomes air_before air_after (λ _ air. IsEnding words records ending air)
+  pub left : Leaves result words records ending before after
+  -- where the datagrams are honest, what is put is what was sent
+  pub honest : (sent : SentSet) → IsHonest sent words.tsi records → AllByRecursion (IsSentFile sent) (puts_in (events_by words records ending))
+  -- every file that was determined is put
+  pub ready : PutsEachReady words.tsi records (puts_in (events_by words records ending))
+
+-- Words that are refused print one line, and nothing is heard or put.
+abbrev pub Refuses : Status → Outputs → Outputs → Type 0
+Refuses status.Usage before after = Makes before after (Line line.usage ∷ [])
+Refuses status.OutFault before after = Stops status.OutFault before after (Line line.usage ∷ [])
+Refuses status.Memory before after = Stops status.Memory before after (Line line.usage ∷ [])
+Refuses _ before after = ⊥
+
+abbrev pub Receives : Option RxWords → Option Broadcast → Option Broadcast → Outputs → Outputs → Status → Type 0
+Receives None air_before air_after before after result = Stays air_before air_after × Refuses result before after
+Receives (Some words) air_before air_after before after result = IsRun words air_before air_after before after result

@@ -1,0 +1,24 @@
+//! The receiver: one call, `receive`, from datagrams to stored files, printed lines and a status.
+#![tactic(auto)]
+
+mod cause;
+mod drops;
+mod ends;
+mod events;
+mod laws;
+mod lines;
+mod lives;
+mod packet;
+#[cfg(test)]
+mod receive_tests;
+mod receiving;
+mod session;
+mod table;
+mod words;
+#[cfg(test)]
+mod words_tests;
+
+pub use cause::{Cause, DATAGRAMS_MAX, Ending};
+pub use laws::run_grows;
+pub use receiving::receive;
+pub use words::{Mode, ReportWord, RxWords, Texts, read_words};

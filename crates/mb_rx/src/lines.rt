@@ -1,0 +1,117 @@
+ghost use Rattle.std.specs.Prelude.{◌≡◌, ◌<◌, ◌/◌, ◌%◌, ◌+◌, ◌++◌, ◌^◌, IfOk, OnOk, string_bytes};
+ghost use Rattle.mb_rx.specs.Lines as line;
+
+use crate::cause::Cause;
+use crate::lives::Report;
+use std::alloc::{AllocError, Global};
+
+/// The line that says what an FDT Instance did.
+pub fn instance_line(alloc: Global, id: u32, report: &Report) -> Result<String, AllocError>
+    ensures { IfOk result (λ text. string_bytes text ≡ line.instance id report.now) }
+{
+    let (started, prolonged) = (report.started, report.prolonged);
+    let others = others_text(alloc, report)?;
+    format!(in alloc; "fdt {id} started {started} prolonged {prolonged} {others}\n")
+}
+
+#[tactic(auto, unfolding(crate::specs::Lines::others))]
+fn others_text(alloc: Global, report: &Report) -> Result<String, AllocError>
+    ensures { IfOk result (λ text. string_bytes text ≡ line.others report.now) }
+{
+    let (conflicting, refused) = (report.conflicting, report.refused);
+    let (norow, full) = (report.norow, report.full);
+    format!(in alloc; "conflicting {conflicting} refused {refused} norow {norow} full {full}")
+}
+
+/// The line that follows a file into the store.
+pub fn stored_line(
+    alloc: Global,
+    toi: u128,
+    len: usize,
+    location: &[u8],
+) -> Result<String, AllocError>
+    ensures { IfOk result (λ text. string_bytes text ≡ line.stored toi len location.now) }
+{
+    let shown = location_text(alloc, location)?;
+    format!(in alloc; "stored {toi} {len} {shown}\n")
+}
+
+/// A location as it is printed: visible ASCII characters as they are, and every other byte and the percent
+/// sign as a percent sign and two digits.
+fn location_text(alloc: Global, location: &[u8]) -> Result<String, AllocError>
+    ensures { IfOk result (λ text. string_bytes text ≡ line.location_text location.now) }
+{
+    let mut text = String::with_capacity(alloc, location.len())?;
+    for byte in location {
+        push_byte(&mut text, *byte)?;
+    }
+    Ok(text)
+}
+
+fn push_byte(text: &mut String, byte: u8) -> Result<(), AllocError>
+    ensures { OnOk result (string_bytes text.new ≡ string_bytes text.old ++ line.location_byte byte) }
+{
+    if (0x21..=0x7e).contains(&byte) && byte != b'%' {
+        text.push(char::from(byte))
+    } else {
+        text.push('%')?;
+        text.push(hex_digit(byte / 16))?;
+        text.push(hex_digit(byte % 16))
+    }
+}
+
+fn hex_digit(n: u8) -> char
+    requires { n < 16 }
+    ensures { result ≡ line.hex_digit n }
+{
+    if n < 10 {
+        char::from(b'0' + n)
+    } else {
+        char::from(b'A' - 10 + n)
+    }
+}
+
+/// The line of a trace that ends inside a record.
+pub fn broken_line(alloc: Global, place: u64) -> Result<String, AllocError>
+    ensures { IfOk result (λ text. string_bytes text ≡ line.broken place) }
+{
+    format!(in alloc; "broken {place}\n")
+}
+
+/// The line of a session's end.
+pub fn end_line(
+    alloc: Global,
+    cause: Cause,
+    moment: u64,
+    datagrams: u64,
+) -> Result<String, AllocError>
+    ensures { IfOk result (λ text. string_bytes text ≡ line.end cause moment datagrams) }
+{
+    let word = cause_word(cause);
+    format!(in alloc; "end {word} {moment} datagrams {datagrams}\n")
+}
+
+fn cause_word(cause: Cause) -> &'static str
+    ensures { result.now ≡ line.cause_word cause }
+{
+    match cause {
+        Cause::Quiet => "quiet",
+        Cause::Ended => "ended",
+        Cause::Closed => "closed",
+        Cause::Limit => "limit",
+    }
+}
+
+/// The line of the datagrams that were dropped for one reason.
+pub fn dropped_line(alloc: Global, word: &str, n: u64) -> Result<String, AllocError>
+    ensures { IfOk result (λ text. string_bytes text ≡ line.dropped word.now n) }
+{
+    format!(in alloc; "dropped {word} {n}\n")
+}
+
+/// The line of a file that was not handed out.
+pub fn incomplete_line(alloc: Global, toi: u128, missing: u64) -> Result<String, AllocError>
+    ensures { IfOk result (λ text. string_bytes text ≡ line.incomplete toi missing) }
+{
+    format!(in alloc; "incomplete {toi} {missing}\n")
+}

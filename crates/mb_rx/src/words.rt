@@ -1,0 +1,186 @@
+ghost use Rattle.std.specs.Prelude.{◌≡◌, ◌↔◌, ◌≤◌, if◌then◌else◌, length, map, option_map, string_bytes, Some, None, IsTrue, IfOk};
+ghost use Rattle.mb_rx.specs.Words.{are_digits, value_of, tsi_of, words_of, session_words};
+
+use mb_base::{Bytes, WordsFault};
+use std::alloc::{AllocError, Global};
+use std::marker::Model;
+
+/// How symbols are asked for.
+#[derive(Clone, Copy, Debug, PartialEq, Eq)]
+pub enum Mode {
+    /// By block and symbol number.
+    Symbols,
+    /// By ranges of the file's bytes.
+    Ranges,
+}
+
+/// Which reception report is sent.
+#[derive(Clone, Copy, Debug, PartialEq, Eq)]
+pub enum ReportWord {
+    None,
+    Rack,
+    Star,
+    StarAll,
+}
+
+/// Texts, which a contract sees as the list of their bytes.
+#[derive(Drop)]
+pub struct Texts {
+    items: Vec<Bytes>,
+}
+
+impl Model for Texts {
+    ghost use Rattle.std.specs.Prelude.{ℕ, List};
+
+    ghost Value = { List (List ℕ) };
+
+    ghost view = { λ t. t.items.items };
+}
+
+impl Texts {
+    pub fn from_vec(items: Vec<Bytes>) -> Self
+        ensures { result ≡ items.items }
+    {
+        Texts { items }
+    }
+
+    pub fn as_slice(&self) -> &[Bytes]
+        ensures { result.now ≡ self.now }
+    {
+        self.items.as_slice()
+    }
+
+    pub fn len(&self) -> usize
+        ensures { result ≡ length self.now }
+    {
+        self.items.len()
+    }
+
+    pub fn is_empty(&self) -> bool
+        ensures { IsTrue result ↔ (length self.now ≡ 0) }
+    {
+        self.items.is_empty()
+    }
+}
+
+/// The values of the receiver's words.
+#[derive(Drop)]
+pub struct RxWords {
+    /// The session's TSI, below 2^48.
+    pub tsi: u64,
+    /// The last moment to listen, in NTP seconds.
+    pub until: u64,
+    /// Seconds from the session's end to the first moment for repair requests.
+    pub offset: u32,
+    /// The length in seconds of the period in which the requests begin at random.
+    pub period: u32,
+    pub mode: Mode,
+    /// How often each missing block is asked for at most.
+    pub attempts: u32,
+    /// How many threads may work on a block.
+    pub workers: u32,
+    pub report: ReportWord,
+    /// The share of reports that are sent, in percent.
+    pub percent: u32,
+    /// The path of repair requests.
+    pub path: Bytes,
+    /// The name of the tables file, if one is used.
+    pub tables: Option<Bytes>,
+    /// The name of the trace, if it is not the standard input.
+    pub trace: Option<Bytes>,
+    /// The address to listen at, if there is one.
+    pub listen: Option<Bytes>,
+    /// The folder in which files are stored.
+    pub folder: Bytes,
+    /// The repair servers.
+    pub servers: Texts,
+}
+
+/// The values of a program's words, without its own name: `--tsi` and a number of 1 to 15 decimal digits
+/// below 2^48. Every other value is the one that holds where its word is not given.
+///
+/// `Refused` exactly where the words are others, as a number with a sign or a word that follows, and
+/// `Memory` where there is no room for the values.
+pub fn read_words(alloc: Global, words: &[String]) -> Result<RxWords, WordsFault>
+    ensures read { IfOk result (λ values. words_of (map string_bytes words.now) ≡ Some values) }
+    ensures refused { result ≡ Err WordsFault.Refused → words_of (map string_bytes words.now) ≡ None }
+{
+    let Some(tsi) = tsi_in(words) else {
+        return Err(WordsFault::Refused);
+    };
+    let Ok(values) = values_for(alloc, tsi) else {
+        return Err(WordsFault::Memory);
+    };
+    Ok(values)
+}
+
+/// The TSI that the words give, if they have their form.
+#[tactic(auto, unfolding(crate::specs::Words::words_of))]
+fn tsi_in(words: &[String]) -> Option<u64>
+    ensures { words_of (map string_bytes words.now) ≡ option_map session_words result }
+{
+    let [name, number] = words else {
+        return None;
+    };
+    if name.as_str() != "--tsi" {
+        return None;
+    }
+    tsi(number.as_bytes())
+}
+
+/// The number below 2^48 that 1 to 15 decimal digits stand for.
+#[tactic(auto, unfolding(crate::specs::Words::tsi_of))]
+fn tsi(digits: &[u8]) -> Option<u64>
+    ensures { result ≡ tsi_of digits.now }
+{
+    if digits.is_empty() || digits.len() > 15 {
+        return None;
+    }
+    let number = number(digits)?;
+    if number < 1 << 48 { Some(number) } else { None }
+}
+
+/// The number that digits stand for, and `None` where some byte is no digit.
+fn number(digits: &[u8]) -> Option<u64>
+    requires { length digits.now ≤ 15 }
+    ensures { result ≡ (if are_digits digits.now then Some (value_of digits.now) else None) }
+{
+    let mut number = 0;
+    for digit in digits {
+        if !digit.is_ascii_digit() {
+            return None;
+        }
+        number = 10 * number + u64::from(*digit - b'0');
+    }
+    Some(number)
+}
+
+/// The values where the TSI alone is given.
+fn values_for(alloc: Global, tsi: u64) -> Result<RxWords, AllocError>
+    ensures { IfOk result (λ values. values ≡ session_words tsi) }
+{
+    Ok(RxWords {
+        tsi,
+        until: 281_474_976_710_655,
+        offset: 0,
+        period: 0,
+        mode: Mode::Symbols,
+        attempts: 1,
+        workers: 1,
+        report: ReportWord::None,
+        percent: 100,
+        path: text(alloc, "/repair")?,
+        tables: None,
+        trace: None,
+        listen: None,
+        folder: text(alloc, ".")?,
+        servers: Texts::from_vec(Vec::new(alloc)),
+    })
+}
+
+fn text(alloc: Global, text: &str) -> Result<Bytes, AllocError>
+    ensures { IfOk result (λ bytes. bytes ≡ text.now) }
+{
+    let bytes = text.as_bytes().to_vec(alloc)?;
+    Ok(Bytes::from_vec(bytes))
+}
