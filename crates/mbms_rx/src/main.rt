@@ -1,0 +1,62 @@
+//! The receiver of one FLUTE session. Its words are `--tsi` and the session's number; the datagrams come
+//! as a packet trace on the standard input, the files go into the folder in which it runs, and the lines to
+//! the standard output. It ends with the number of its status.
+#![tactic(auto)]
+
+use mb_base::{
+    FolderStore, ListChance, MemLinks, MemSource, Memory, OpenGate, Status, StdSink, StdSource,
+    TraceAir,
+};
+use mb_rx::receive;
+use std::alloc::Global;
+use std::process::ExitCode;
+use std::rt::{Env, Files};
+use std::thread::Threads;
+use std::{env, io};
+
+fn main(rt: HostRuntime) -> ExitCode {
+    ExitCode::from(status_of(&rt).number())
+}
+
+fn status_of<R: Threads + Sync + Env + Files + Input + Print + AllocGlobal>(rt: &R) -> Status {
+    match words_of(rt) {
+        Ok(words) => run(rt, &words).unwrap_or(Status::Memory),
+        Err(status) => status,
+    }
+}
+
+/// The words after the program's name. Words that are no text are refused as others are.
+fn words_of<R: Env + AllocGlobal>(rt: &R) -> Result<Vec<String>, Status> {
+    match env::args(rt) {
+        Ok(words) => Ok(words.skip(1).collect(rt.alloc())?),
+        Err(error) if error.kind() == io::ErrorKind::OutOfMemory => Err(Status::Memory),
+        Err(_) => Err(Status::Usage),
+    }
+}
+
+/// Receives over the objects that the program uses: nothing is asked of a server, and no tables are read.
+fn run<R: Threads + Sync + Files + Input + Print + AllocGlobal>(
+    rt: &R,
+    words: &[String],
+) -> Result<Status, Memory> {
+    let alloc: Global = rt.alloc();
+    // A trace is read in large pieces already, so no buffer stands before it.
+    let mut air = TraceAir::new(alloc, StdSource::new(rt.reader()))?;
+    let mut tables = MemSource::new(Vec::new(alloc), Vec::new(alloc))?;
+    let mut store = FolderStore::new(rt, alloc, ".")?;
+    let mut out = StdSink::new(io::writer(rt));
+    let mut links = MemLinks::new(alloc, Vec::new(alloc), Vec::new(alloc))?;
+    let mut chance = ListChance::new(Vec::new(alloc))?;
+    Ok(receive(
+        rt,
+        alloc,
+        words,
+        &mut tables,
+        &mut air,
+        &mut store,
+        &mut out,
+        &mut links,
+        &mut chance,
+        &OpenGate,
+    ))
+}
