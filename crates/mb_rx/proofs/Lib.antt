@@ -9,3 +9,4 @@ pub mod ListenLemmas
 pub mod HeardLemmas
 pub mod Printing
 pub mod RunLemmas
+pub mod Faultless

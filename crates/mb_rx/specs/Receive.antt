@@ -177,3 +177,21 @@ Refuses _ before after = ⊥
 abbrev pub Receives : Option RxWords → Option Broadcast → Option Broadcast → Outputs → Outputs → Status → Type 0
 Receives None air_before air_after before after result = Stays air_before air_after × Refuses result before after
 Receives (Some words) air_before air_after before after result = IsRun words air_before air_after before after result
+
+-- What a call without a fault of the outside answers.
+
+-- The air tells a trace that is not broken, and no fault was counted.
+pub record IsFaultless (air : Option Broadcast) (air_before air_after : ℕ) (before after : Outputs) : Type 0 where
+  pub broadcast : Broadcast
+  pub told : air ≡ Some broadcast
+  pub unbroken : broadcast.broken ≡ None
+  pub air_same : Rose air_before air_after → ⊥
+  pub store_same : Rose before.store_faults after.store_faults → ⊥
+  pub sink_same : Rose before.sink_faults after.sink_faults → ⊥
+
+-- the session was received to its end, or memory was wanting
+abbrev pub Completes : Status → Type 0
+Completes status.Done = ⊤
+Completes status.Incomplete = ⊤
+Completes status.Memory = ⊤
+Completes _ = ⊥

@@ -1,10 +1,24 @@
 //! What holds of every run.
 
-ghost use Rattle.std.specs.Prelude.{List, ◌≡◌, ◌++◌};
+ghost use Rattle.std.specs.Prelude.{◌≡◌, ℕ, List, ◌++◌, Option, Some};
+ghost use Rattle.mb_base.specs.Outside.{Rose};
+ghost use Rattle.mb_base.specs.Broadcast.{Broadcast};
+ghost use Rattle.mb_base.specs.declared.outcome.Status.{Status};
+ghost use Rattle.mb_base.specs.declared.outcome.Status.TheVariants as status;
+ghost use Rattle.mb_rx.specs.declared.words.RxWords.{RxWords};
+ghost use Rattle.mb_rx.specs.Receive.{Receives, Outputs, IsFaultless, Completes};
 ghost use Rattle.mb_rx.specs.Run.{Event, Known, Extends, events_of};
 
 /// A law, which runs nothing: what is known of a run grows, and the events that it has made grow at their end
 /// only.
 pub fn run_grows()
     ensures { (known more : Known) → Extends known more → (later : List Event) × (events_of more ≡ events_of known ++ later) }
+{}
+
+/// A law, which runs nothing: by what `receive` promises, good words, a trace that is not broken and no
+/// counted fault give status 0 or 1, or want of memory.
+pub fn faultless_calls_complete()
+    ensures { (words : RxWords) (air_before air_after : Option Broadcast) (before after : Outputs) (faults_before faults_after : ℕ) (result : Status)
+        → Receives (Some words) air_before air_after before after result → (result ≡ status.AirFault → Rose faults_before faults_after)
+        → IsFaultless air_before faults_before faults_after before after → Completes result }
 {}
