@@ -1,0 +1,3 @@
+pub mod Lct
+pub mod Written
+pub mod Laws
