@@ -24,6 +24,24 @@ returns-in_err-put_number-2-clause-kept c =
       c.put_number.new.out.ok.0,
     ))
 
+pub returns-in_err-put_number-2-clause-full : goal.returns-in_err-put_number-2-clause-full
+returns-in_err-put_number-2-clause-full c =
+    let size = ap length c.in_ok-put_number.ensures.appended in
+    absurd (omega (
+      arith,
+      length-append {A = ℕ},
+      length-be_bytes (4 + 2 * c.from-half_bytes.result) c.from-4.result,
+      c.in_err-put_number-2.ensures.full,
+      c.in_ok-put_number.ensures.room,
+      c.in_ok-extend_from_slice.ensures.len,
+      c.in_ok-extend_from_slice.ensures.capacity,
+      c.in_ok-reserve.ensures.ok,
+      c.in_ok-reserve.ensures.len,
+      c.reserve.new.self.ok.0,
+      c.extend_from_slice.new.self.ok.0,
+      c.put_number.new.out.ok.0,
+    ))
+
 pub returns-clause-appended : goal.returns-clause-appended
 returns-clause-appended c =
     let lct = c.args.lct.now in
