@@ -1,13 +1,16 @@
 -- What a call without a fault of the outside answers.
-use Rattle.std.proofs.Common.{◌≡◌, ℕ, List, Option, Some, None, refl, sym, ap, ◌∙◌, subst}
+use Rattle.std.proofs.Common.{◌≡◌, ℕ, ◌≤◌, ◌<◌, ◌+◌, List, [], ◌∷◌, ◌++◌, length, length-append, Option, Some, None, arith, refl, ap, subst}
+use Rattle.std.specs.List.{AllByRecursion}
 use Rattle.mb_base.specs.Outside.{Becomes, Rose}
-use Rattle.mb_base.specs.Broadcast.{Record, Broadcast}
+use Rattle.mb_base.specs.Broadcast.{Record, Broadcast, IsPast}
 use Rattle.mb_base.specs.declared.outcome.Status.{Status}
 use Rattle.mb_base.specs.declared.outcome.Status.TheVariants as status
 use Rattle.mb_rx.specs.declared.words.RxWords.{RxWords}
+use Rattle.mb_rx.specs.declared.cause.Cause.TheVariants as cause
+use Rattle.mb_rx.specs.declared.cause.TheConstants.{DATAGRAMS_MAX}
 use Rattle.mb_rx.specs.declared.cause.Ending.{Ending}
 use Rattle.mb_rx.specs.declared.cause.Ending.TheVariants.{EndsBy, BreaksAt}
-use Rattle.mb_rx.specs.Receive.{Outputs, Takes, IsEnding, IsBroken, IsRun, IsFaultless, Completes}
+use Rattle.mb_rx.specs.Receive.{Outputs, Takes, IsEnding, IsEnded, IsBroken, IsRun, IsUncounted, IsWholeTrace, IsCutTrace, Completes, FindsBroken}
 
 -- an air that is not broken does not break
 unbroken : (words : RxWords) (records : List Record) (ending : Option Ending) (old : Broadcast) (air : Option Broadcast) → old.broken ≡ None
@@ -21,15 +24,59 @@ unbroken words records (Some (BreaksAt place)) old (Some now) whole taken ends b
     cc
 
 pub faultless : (words : RxWords) (a b : Option Broadcast) (x y : Outputs) (before after : ℕ) (result : Status) → IsRun words a b x y result
-    → (result ≡ status.AirFault → Rose before after) → IsFaultless a before after x y → Completes result
-faultless words a b x y before after status.Done r cause f = tt
-faultless words a b x y before after status.Incomplete r cause f = tt
-faultless words a b x y before after status.Memory r cause f = tt
-faultless words a b x y before after status.TraceBroken r cause f =
+    → (result ≡ status.AirFault → Rose before after) → IsWholeTrace a → IsUncounted before after x y → Completes result
+faultless words a b x y before after status.Done r cause f same = tt
+faultless words a b x y before after status.Incomplete r cause f same = tt
+faultless words a b x y before after status.Memory r cause f same = tt
+faultless words a b x y before after status.TraceBroken r cause f same =
     absurd (unbroken words r.records r.ending f.broadcast b f.unbroken
     (subst (λ (o : Option Broadcast). Becomes o b (Takes r.records)) f.told r.taken)
     (subst (λ (o : Option Broadcast). Becomes o b (λ _ now. IsEnding words r.records r.ending now)) f.told r.ends) r.left.0)
-faultless words a b x y before after status.AirFault r cause f = absurd (f.air_same (cause refl))
-faultless words a b x y before after status.StoreFault r cause f = absurd (f.store_same r.left.stop.2)
-faultless words a b x y before after status.OutFault r cause f = absurd (f.sink_same r.left.stop.1)
-faultless words a b x y before after _ r cause f = absurd r.left
+faultless words a b x y before after status.AirFault r cause f same = absurd (same.air_same (cause refl))
+faultless words a b x y before after status.StoreFault r cause f same = absurd (same.store_same r.left.stop.2)
+faultless words a b x y before after status.OutFault r cause f same = absurd (same.sink_same r.left.stop.1)
+faultless words a b x y before after _ r cause f same = absurd r.left
+
+-- a record that is later than the session listens is not among those of the air
+late : (until : ℕ) (records rest : List Record) → AllByRecursion (λ heard. heard.at ≤ until) (records ++ rest) → IsPast until rest → ⊥
+late until [] [] in_time past = past
+late until [] (next ∷ later) in_time past = let by : next.at ≤ until = in_time.0 in omega (arith, by, past)
+late until (heard ∷ records) rest in_time past = late until records rest in_time.1 past
+
+-- a session that took the most records was given as many
+most : (m : ℕ) (records rest : List Record) → length records ≡ m → length (records ++ rest) < m → ⊥
+most m records rest all few = let len : length (records ++ rest) ≡ length records + length rest = length-append records rest in omega (arith, all, few, len)
+
+-- a session that listens up to where the air breaks does not end before
+not_ended : (words : RxWords) (records : List Record) (ending : Option Ending) (old : Broadcast) (air : Option Broadcast) (place : ℕ) → old.broken ≡ Some place
+    → length old.records < DATAGRAMS_MAX → AllByRecursion (λ heard. heard.at ≤ words.until) old.records
+    → Becomes (Some old) air (Takes records) → Becomes (Some old) air (λ _ now. IsEnding words records ending now) → IsEnded ending → ⊥
+not_ended words records None old air place broken few in_time taken ends ended = ended
+not_ended words records (Some (BreaksAt at)) old air place broken few in_time taken ends ended = ended
+not_ended words records (Some (EndsBy reason)) old None place broken few in_time taken ends ended = taken
+not_ended words records (Some (EndsBy cause.Quiet)) old (Some now) place broken few in_time taken ends ended =
+    late words.until records now.records (subst (λ (b : Broadcast). AllByRecursion (λ heard. heard.at ≤ words.until) b.records) taken in_time) ends
+not_ended words records (Some (EndsBy cause.Ended)) old (Some now) place broken few in_time taken ends ended =
+    let same : old.broken ≡ now.broken = ap (λ (b : Broadcast). b.broken) taken in
+    let none : now.broken ≡ None = ends.end in
+    cc
+not_ended words records (Some (EndsBy cause.Closed)) old (Some now) place broken few in_time taken ends ended = ends
+not_ended words records (Some (EndsBy cause.Limit)) old (Some now) place broken few in_time taken ends ended =
+    most DATAGRAMS_MAX records now.records ends (subst (λ (b : Broadcast). length b.records < DATAGRAMS_MAX) taken few)
+
+ended_whole : (words : RxWords) (a b : Option Broadcast) (x y : Outputs) (result : Status) (r : IsRun words a b x y result)
+    → IsCutTrace words.until a → IsEnded r.ending → ⊥
+ended_whole words a b x y result r f ended = not_ended words r.records r.ending f.broadcast b f.place f.broken f.few f.in_time
+    (subst (λ (o : Option Broadcast). Becomes o b (Takes r.records)) f.told r.taken)
+    (subst (λ (o : Option Broadcast). Becomes o b (λ _ now. IsEnding words r.records r.ending now)) f.told r.ends) ended
+
+pub found_broken : (words : RxWords) (a b : Option Broadcast) (x y : Outputs) (before after : ℕ) (result : Status) → IsRun words a b x y result
+    → (result ≡ status.AirFault → Rose before after) → IsCutTrace words.until a → IsUncounted before after x y → FindsBroken result
+found_broken words a b x y before after status.TraceBroken r cause f same = tt
+found_broken words a b x y before after status.Memory r cause f same = tt
+found_broken words a b x y before after status.Done r cause f same = absurd (ended_whole words a b x y status.Done r f r.left.ended)
+found_broken words a b x y before after status.Incomplete r cause f same = absurd (ended_whole words a b x y status.Incomplete r f r.left.ended)
+found_broken words a b x y before after status.AirFault r cause f same = absurd (same.air_same (cause refl))
+found_broken words a b x y before after status.StoreFault r cause f same = absurd (same.store_same r.left.stop.2)
+found_broken words a b x y before after status.OutFault r cause f same = absurd (same.sink_same r.left.stop.1)
+found_broken words a b x y before after _ r cause f same = absurd r.left

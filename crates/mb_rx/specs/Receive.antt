@@ -1,5 +1,5 @@
 -- What a call of `receive` leaves behind: the run that it made, as far as it came.
-use Rattle.std.specs.Prelude.{◌≡◌, ℕ, ◌≤◌, Bool, true, false, List, [], ◌∷◌, ◌++◌, length, Option, Some, None, Result, Ok, Err, Contains, ⊤}
+use Rattle.std.specs.Prelude.{◌≡◌, ℕ, ◌≤◌, ◌<◌, Bool, true, false, List, [], ◌∷◌, ◌++◌, length, Option, Some, None, Result, Ok, Err, Contains, ⊤}
 use Rattle.std.specs.List.{AllByRecursion}
 use Rattle.mb_base.specs.Outside.{Grows, Becomes, Stays, Rose}
 use Rattle.mb_base.specs.Files.{File}
@@ -180,14 +180,27 @@ Receives (Some words) air_before air_after before after result = IsRun words air
 
 -- What a call without a fault of the outside answers.
 
--- The air tells a trace that is not broken, and no fault was counted.
-pub record IsFaultless (air : Option Broadcast) (air_before air_after : ℕ) (before after : Outputs) : Type 0 where
-  pub broadcast : Broadcast
-  pub told : air ≡ Some broadcast
-  pub unbroken : broadcast.broken ≡ None
+-- no fault of the air, the store or the sink was counted
+pub record IsUncounted (air_before air_after : ℕ) (before after : Outputs) : Type 0 where
   pub air_same : Rose air_before air_after → ⊥
   pub store_same : Rose before.store_faults after.store_faults → ⊥
   pub sink_same : Rose before.sink_faults after.sink_faults → ⊥
+
+-- the air tells a trace that is not broken
+pub record IsWholeTrace (air : Option Broadcast) : Type 0 where
+  pub broadcast : Broadcast
+  pub told : air ≡ Some broadcast
+  pub unbroken : broadcast.broken ≡ None
+
+-- The air tells a trace that is broken, and the session listens up to there: the records are fewer than it
+-- takes at most, and none is later than it listens.
+pub record IsCutTrace (until : ℕ) (air : Option Broadcast) : Type 0 where
+  pub broadcast : Broadcast
+  pub told : air ≡ Some broadcast
+  pub place : ℕ
+  pub broken : broadcast.broken ≡ Some place
+  pub few : length broadcast.records < DATAGRAMS_MAX
+  pub in_time : AllByRecursion (λ heard. heard.at ≤ until) broadcast.records
 
 -- the session was received to its end, or memory was wanting
 abbrev pub Completes : Status → Type 0
@@ -195,3 +208,9 @@ Completes status.Done = ⊤
 Completes status.Incomplete = ⊤
 Completes status.Memory = ⊤
 Completes _ = ⊥
+
+-- the trace was found broken, or memory was wanting
+abbrev pub FindsBroken : Status → Type 0
+FindsBroken status.TraceBroken = ⊤
+FindsBroken status.Memory = ⊤
+FindsBroken _ = ⊥

@@ -6,7 +6,7 @@ ghost use Rattle.mb_base.specs.Broadcast.{Broadcast};
 ghost use Rattle.mb_base.specs.declared.outcome.Status.{Status};
 ghost use Rattle.mb_base.specs.declared.outcome.Status.TheVariants as status;
 ghost use Rattle.mb_rx.specs.declared.words.RxWords.{RxWords};
-ghost use Rattle.mb_rx.specs.Receive.{Receives, Outputs, IsFaultless, Completes};
+ghost use Rattle.mb_rx.specs.Receive.{Receives, Outputs, IsUncounted, IsWholeTrace, IsCutTrace, Completes, FindsBroken};
 ghost use Rattle.mb_rx.specs.Run.{Event, Known, Extends, events_of};
 
 /// A law, which runs nothing: what is known of a run grows, and the events that it has made grow at their end
@@ -20,5 +20,13 @@ pub fn run_grows()
 pub fn faultless_calls_complete()
     ensures { (words : RxWords) (air_before air_after : Option Broadcast) (before after : Outputs) (faults_before faults_after : ℕ) (result : Status)
         → Receives (Some words) air_before air_after before after result → (result ≡ status.AirFault → Rose faults_before faults_after)
-        → IsFaultless air_before faults_before faults_after before after → Completes result }
+        → IsWholeTrace air_before → IsUncounted faults_before faults_after before after → Completes result }
+{}
+
+/// A law, which runs nothing: by what `receive` promises, good words, a trace that is broken where the session
+/// still listens, and no counted fault give status 4, or want of memory.
+pub fn broken_traces_are_found()
+    ensures { (words : RxWords) (air_before air_after : Option Broadcast) (before after : Outputs) (faults_before faults_after : ℕ) (result : Status)
+        → Receives (Some words) air_before air_after before after result → (result ≡ status.AirFault → Rose faults_before faults_after)
+        → IsCutTrace words.until air_before → IsUncounted faults_before faults_after before after → FindsBroken result }
 {}

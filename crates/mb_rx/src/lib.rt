@@ -19,6 +19,6 @@ mod words;
 mod words_tests;
 
 pub use cause::{Cause, DATAGRAMS_MAX, Ending};
-pub use laws::{faultless_calls_complete, run_grows};
+pub use laws::{broken_traces_are_found, faultless_calls_complete, run_grows};
 pub use receiving::receive;
 pub use words::{Mode, ReportWord, RxWords, Texts, read_words};
