@@ -15,31 +15,24 @@ use std::thread::Threads;
 use std::{env, io};
 
 fn main(rt: HostRuntime) -> ExitCode {
-    ExitCode::from(status_of(&rt).number())
+    ExitCode::from(run(&rt).unwrap_or(Status::Memory).number())
 }
 
-fn status_of<R: Threads + Sync + Env + Files + Input + Print + AllocGlobal>(rt: &R) -> Status {
-    match words_of(rt) {
-        Ok(words) => run(rt, &words).unwrap_or(Status::Memory),
-        Err(status) => status,
-    }
-}
-
-/// The words after the program's name. Words that are no text are refused as others are.
-fn words_of<R: Env + AllocGlobal>(rt: &R) -> Result<Vec<String>, Status> {
+/// The words after the program's name. Words that are no text are bad words, for which no words stand.
+fn words_of<R: Env + AllocGlobal>(rt: &R) -> Result<Vec<String>, Memory> {
     match env::args(rt) {
         Ok(words) => Ok(words.skip(1).collect(rt.alloc())?),
-        Err(error) if error.kind() == io::ErrorKind::OutOfMemory => Err(Status::Memory),
-        Err(_) => Err(Status::Usage),
+        Err(error) if error.kind() == io::ErrorKind::OutOfMemory => Err(Memory),
+        Err(_) => Ok(Vec::new(rt.alloc())),
     }
 }
 
 /// Receives over the objects that the program uses: nothing is asked of a server, and no tables are read.
-fn run<R: Threads + Sync + Files + Input + Print + AllocGlobal>(
+fn run<R: Threads + Sync + Env + Files + Input + Print + AllocGlobal>(
     rt: &R,
-    words: &[String],
 ) -> Result<Status, Memory> {
     let alloc: Global = rt.alloc();
+    let words = words_of(rt)?;
     // A trace is read in large pieces already, so no buffer stands before it.
     let mut air = TraceAir::new(alloc, StdSource::new(rt.reader()))?;
     let mut tables = MemSource::new(Vec::new(alloc), Vec::new(alloc))?;
@@ -50,7 +43,7 @@ fn run<R: Threads + Sync + Files + Input + Print + AllocGlobal>(
     Ok(receive(
         rt,
         alloc,
-        words,
+        &words,
         &mut tables,
         &mut air,
         &mut store,
