@@ -1,0 +1,7 @@
+"""What `pcap2trace` and `trace2pcap` are made of.
+
+outside   words, the file that comes in, the result that goes out
+trace     packet traces
+files     capture files: pcap and pcapng
+frames    the UDP datagram in a captured frame
+"""
