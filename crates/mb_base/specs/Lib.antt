@@ -10,4 +10,5 @@ pub mod MemLinks
 pub mod Number
 pub mod Trace
 pub mod Held
+pub mod TraceReader
 pub mod Status

@@ -30,6 +30,7 @@ mod std_source;
 mod store;
 mod trace;
 mod trace_air;
+mod trace_reader;
 mod turn;
 mod writing;
 
@@ -54,6 +55,7 @@ pub use std_source::StdSource;
 pub use store::Store;
 pub use trace::{trace_bytes, traces_are_read};
 pub use trace_air::TraceAir;
+pub use trace_reader::TraceReader;
 pub use writing::write_all;
 
 #[cfg(test)]

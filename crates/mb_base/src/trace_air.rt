@@ -1,9 +1,7 @@
 ghost use Rattle.std.specs.Prelude.{◌≡◌, ℕ, List, ◌^◌, ◌<◌, Option, None, Some, length, option_map, IfOk};
-ghost use Rattle.mb_base.specs.Trace.{records_of, broken_of, trace_broadcast, bytes_ahead};
+ghost use Rattle.mb_base.specs.Trace.{records_of, broken_of, trace_broadcast};
 
-use crate::held::Held;
-use crate::turn::{end_at, fill_record, give};
-use crate::{Air, AirEvent, Failed, Memory, Source};
+use crate::{Air, AirEvent, Memory, Source, TraceReader};
 use std::alloc::Global;
 
 /// The air that a packet trace tells of, which is read from a source as it is asked for. Moments are NTP
@@ -16,8 +14,7 @@ use std::alloc::Global;
 #[derive(Drop)]
 pub struct TraceAir<S> {
     source: S,
-    held: Held,
-    place: u64,
+    reader: TraceReader,
     rested: Option<u64>,
 }
 
@@ -33,34 +30,28 @@ impl<S: Source + Drop> TraceAir<S> {
         ensures faults { IfOk result (λ air. ⟦<TraceAir<S> as Air>⟧.faults air ≡ S.faults source) }
         ensures made { IfOk result (λ air. ⟦<TraceAir<S> as Air>⟧.made air ≡ S.made source) }
     {
-        let held = Held::new(alloc)?;
+        let reader = TraceReader::new(alloc)?;
         Ok(TraceAir {
             source,
-            held,
-            place: 0,
+            reader,
             rested: None,
         })
     }
 }
 
 impl<S: Source> Air for TraceAir<S> {
-    ghost use Rattle.mb_base.specs.Held.{held_bytes};
+    ghost use Rattle.mb_base.specs.TraceReader.{ahead_of};
 
     type Made = S::Made;
 
     ghost made = { λ air. S.made air.source };
 
-    ghost broadcast = { λ air. option_map (trace_broadcast air.place air.rested)
-        (bytes_ahead (held_bytes air.held) (S.left air.source)) };
+    ghost broadcast = { λ air. ahead_of air.reader air.rested (S.left air.source) };
 
     ghost faults = { λ air. S.faults air.source };
 
     fn next(&mut self, until: u64, buf: &mut [u8]) -> AirEvent {
-        match fill_record(&mut self.held, &mut self.source) {
-            Err(Failed) => AirEvent::Failed,
-            Ok(Some(size)) => give(&mut self.held, &mut self.place, size, until, buf),
-            Ok(None) => end_at(self.place, self.held.as_slice()),
-        }
+        self.reader.next(&mut self.source, until, buf)
     }
 
     fn rest(&mut self, until: u64) {
