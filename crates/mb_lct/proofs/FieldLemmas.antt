@@ -1,6 +1,7 @@
 -- Lemmas on the numbers of a header's fields.
-use Rattle.std.proofs.Common.{◌≡◌, ℕ, zero, suc, ◌+◌, ◌-◌, ◌*◌, ◌^◌, ◌<◌, ◌≤◌, List, [], ◌∷◌, length, get_or, slice_index, take, drop, refl, sym, ap, ◌∙◌, arith, add-one}
+use Rattle.std.proofs.Common.{◌≡◌, ℕ, zero, suc, ◌+◌, ◌-◌, ◌*◌, ◌^◌, ◌<◌, ◌≤◌, List, [], ◌∷◌, ◌++◌, length, get_or, slice_index, take, drop, refl, sym, ap, ◌∙◌, arith, add-one}
 use Rattle.std.proofs.Math.Nat.{pow-succ', pow-le-pow_right, div-one}
+use Rattle.std.proofs.lemmas.Nat.{pow-add}
 use Rattle.std.proofs.Math.Seq.{take-suc}
 use Rattle.std.proofs.lemmas.List.{take_rest}
 use Rattle.std.specs.Int.{w128, to_be_bytes}
@@ -43,3 +44,13 @@ be_bytes-last bs w n le is =
     let size : length bs ≡ 16 = ap length (is ∙ be_bytes-sixteen n) ∙ length-be_bytes 16 n in
     ap (λ m. take (m - (16 - w)) (drop (16 - w) bs)) (sym size) ∙ take_rest bs (16 - w)
     ∙ ap (drop (16 - w)) (is ∙ be_bytes-sixteen n ∙ ap (λ m. be_bytes m n) parts) ∙ be_bytes-drop (16 - w) w n
+
+-- a number in two parts, the second of eight bytes
+pub number-join : (bs upper lower : List ℕ) → bs ≡ upper ++ lower → length lower ≡ 8 → be_number bs ≡ be_number upper * 2 ^ 64 + be_number lower
+number-join bs upper lower is size =
+    ap be_number is ∙ be_number-append upper lower ∙ ap (λ k. be_number upper * 256 ^ k + be_number lower) size
+
+pub below-join : (n m i : ℕ) → n < 256 ^ i → m < 2 ^ 64 → n * 2 ^ 64 + m < 256 ^ (i + 8)
+below-join n m i below small =
+    let power : 256 ^ (i + 8) ≡ 256 ^ i * 2 ^ 64 = pow-add 256 i 8 in
+    omega arith

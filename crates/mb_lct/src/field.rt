@@ -7,19 +7,38 @@ use mb_base::Memory;
 const NUMBER_MAX: usize = 16;
 
 /// The values of a byte.
-const BYTE: u128 = 256;
+const BYTE: u64 = 256;
 
-/// The number that at most 14 bytes stand for.
-pub(crate) fn read_number(bytes: &[u8]) -> u128
-    requires { length bytes.now ≤ 14 }
+/// The most bytes of a number that is read in one register.
+const SHORT_MAX: usize = 8;
+
+/// The number above each of so many bytes.
+const SHORT_END: u128 = 1 << 64;
+
+/// The number that at most eight bytes stand for.
+fn read_short(bytes: &[u8]) -> u64
+    requires { length bytes.now ≤ 8 }
     ensures value { result ≡ be_number bytes.now }
     ensures below { result < 256 ^ length bytes.now }
 {
     let mut number = 0;
     for byte in bytes {
-        number = number * BYTE + u128::from(*byte);
+        number = number * BYTE + u64::from(*byte);
     }
     number
+}
+
+/// The number that at most 14 bytes stand for.
+fn read_number(bytes: &[u8]) -> u128
+    requires { length bytes.now ≤ 14 }
+    ensures value { result ≡ be_number bytes.now }
+    ensures below { result < 256 ^ length bytes.now }
+{
+    if bytes.len() <= SHORT_MAX {
+        return u128::from(read_short(bytes));
+    }
+    let (upper, lower) = bytes.split_at(bytes.len() - SHORT_MAX);
+    u128::from(read_short(upper)) * SHORT_END + u128::from(read_short(lower))
 }
 
 /// The number that a TSI's bytes stand for, at most six.
@@ -28,7 +47,7 @@ pub(crate) fn read_tsi(bytes: &[u8]) -> u64
     ensures value { result ≡ be_number bytes.now }
     ensures below { result < 2 ^ 48 }
 {
-    read_number(bytes) as u64
+    read_short(bytes)
 }
 
 /// The number that a TOI's bytes stand for, at most 14, if there are any.

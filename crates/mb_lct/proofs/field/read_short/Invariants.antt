@@ -1,6 +1,6 @@
 use Rattle.std.proofs.Common.{◌≡◌, ◌^◌, ◌<◌, take}
 use Rattle.mb_base.specs.Number.{be_number}
-use Rattle.mb_lct.proofs.field.read_number.Given as goal
+use Rattle.mb_lct.proofs.field.read_short.Given as goal
 
 abbrev pub invariant-loop-byte : goal.invariant-loop-byte
 invariant-loop-byte l = record {
