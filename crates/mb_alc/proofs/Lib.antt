@@ -1,0 +1,3 @@
+pub mod ExtensionLemmas
+pub mod PacketLemmas
+pub mod WriteLemmas
