@@ -1,5 +1,5 @@
 -- What a call without a fault of the outside answers.
-use Rattle.std.proofs.Common.{◌≡◌, ℕ, ◌≤◌, ◌<◌, ◌+◌, List, [], ◌∷◌, ◌++◌, length, length-append, Option, Some, None, arith, refl, ap, subst}
+use Rattle.std.proofs.Common.{◌≡◌, ℕ, ◌≤◌, ◌<◌, ◌+◌, List, [], ◌∷◌, ◌++◌, length, length-append, max, ◌||◌, true, false, fold, Option, Some, None, Result, Ok, Err, arith, refl, ◌∙◌, ap, subst}
 use Rattle.std.specs.List.{AllByRecursion}
 use Rattle.mb_base.specs.Outside.{Becomes, Rose}
 use Rattle.mb_base.specs.Broadcast.{Record, Broadcast, IsPast}
@@ -10,7 +10,13 @@ use Rattle.mb_rx.specs.declared.cause.Cause.TheVariants as cause
 use Rattle.mb_rx.specs.declared.cause.TheConstants.{DATAGRAMS_MAX}
 use Rattle.mb_rx.specs.declared.cause.Ending.{Ending}
 use Rattle.mb_rx.specs.declared.cause.Ending.TheVariants.{EndsBy, BreaksAt}
-use Rattle.mb_rx.specs.Receive.{Outputs, Takes, IsEnding, IsEnded, IsBroken, IsRun, IsUncounted, IsWholeTrace, IsCutTrace, Completes, FindsBroken}
+use Rattle.mb_alc.specs.Packet.{Packet, packet_of}
+use Rattle.mb_alc.specs.declared.fault.PacketFault.{PacketFault}
+use Rattle.mb_rx.specs.declared.drops.Reason.TheVariants as reason
+use Rattle.mb_rx.specs.Receiver.{Receiver, Stepped, no_instance, drop_for, closes, hear_packet, hear_datagram}
+use Rattle.mb_rx.specs.Run.{Session, after_record, session}
+use Rattle.mb_rx.proofs.Growth.{session-append}
+use Rattle.mb_rx.specs.Receive.{ClosesBy, is_closed, Outputs, Takes, IsEnding, IsEnded, IsBroken, IsRun, IsUncounted, IsWholeTrace, IsCutTrace, Completes, FindsBroken}
 
 -- an air that is not broken does not break
 unbroken : (words : RxWords) (records : List Record) (ending : Option Ending) (old : Broadcast) (air : Option Broadcast) → old.broken ≡ None
@@ -47,31 +53,51 @@ late until (heard ∷ records) rest in_time past = late until records rest in_ti
 most : (m : ℕ) (records rest : List Record) → length records ≡ m → length (records ++ rest) < m → ⊥
 most m records rest all few = let len : length (records ++ rest) ≡ length records + length rest = length-append records rest in omega (arith, all, few, len)
 
+-- a session that was closed stays closed
+datagram-closed : (tsi : ℕ) (r : Receiver) (packet : Result Packet PacketFault) → r.closed ≡ true → (hear_datagram tsi r packet).receiver.closed ≡ true
+datagram-closed tsi r (Err fault) closed = closed
+datagram-closed tsi r (Ok p) closed =
+    let dropped : hear_packet tsi r p ≡ no_instance (drop_for reason.Closed r) = rw closed refl in
+    ap (λ (s : Stepped). s.receiver.closed || closes tsi p) dropped ∙ ap (λ b. b || closes tsi p) closed
+
+records-closed : (tsi : ℕ) (s : Session) (records : List Record) → s.receiver.closed ≡ true → (fold (after_record tsi) s records).receiver.closed ≡ true
+records-closed tsi s [] closed = closed
+records-closed tsi s (heard ∷ records) closed =
+    records-closed tsi (after_record tsi s heard) records
+    (datagram-closed tsi (record s.receiver { clock = max s.receiver.clock heard.at }) (packet_of heard.bytes) closed)
+
+stays-closed : (words : RxWords) (xs ys : List Record) → is_closed words xs ≡ true → is_closed words (xs ++ ys) ≡ true
+stays-closed words xs ys closed =
+    ap (λ (s : Session). s.receiver.closed) (session-append words.tsi xs ys) ∙ records-closed words.tsi (session words.tsi xs) ys closed
+
 -- a session that listens up to where the air breaks does not end before
 not_ended : (words : RxWords) (records : List Record) (ending : Option Ending) (old : Broadcast) (air : Option Broadcast) (place : ℕ) → old.broken ≡ Some place
     → length old.records < DATAGRAMS_MAX → AllByRecursion (λ heard. heard.at ≤ words.until) old.records
+    → is_closed words old.records ≡ false → ClosesBy ending (is_closed words records)
     → Becomes (Some old) air (Takes records) → Becomes (Some old) air (λ _ now. IsEnding words records ending now) → IsEnded ending → ⊥
-not_ended words records None old air place broken few in_time taken ends ended = ended
-not_ended words records (Some (BreaksAt at)) old air place broken few in_time taken ends ended = ended
-not_ended words records (Some (EndsBy reason)) old None place broken few in_time taken ends ended = taken
-not_ended words records (Some (EndsBy cause.Quiet)) old (Some now) place broken few in_time taken ends ended =
+not_ended words records None old air place broken few in_time still closes taken ends ended = ended
+not_ended words records (Some (BreaksAt at)) old air place broken few in_time still closes taken ends ended = ended
+not_ended words records (Some (EndsBy why)) old None place broken few in_time still closes taken ends ended = taken
+not_ended words records (Some (EndsBy cause.Quiet)) old (Some now) place broken few in_time still closes taken ends ended =
     late words.until records now.records (subst (λ (b : Broadcast). AllByRecursion (λ heard. heard.at ≤ words.until) b.records) taken in_time) ends
-not_ended words records (Some (EndsBy cause.Ended)) old (Some now) place broken few in_time taken ends ended =
+not_ended words records (Some (EndsBy cause.Ended)) old (Some now) place broken few in_time still closes taken ends ended =
     let same : old.broken ≡ now.broken = ap (λ (b : Broadcast). b.broken) taken in
     let none : now.broken ≡ None = ends.end in
     cc
-not_ended words records (Some (EndsBy cause.Closed)) old (Some now) place broken few in_time taken ends ended = ends
-not_ended words records (Some (EndsBy cause.Limit)) old (Some now) place broken few in_time taken ends ended =
+not_ended words records (Some (EndsBy cause.Closed)) old (Some now) place broken few in_time still closes taken ends ended =
+    let closed : is_closed words old.records ≡ true = ap (λ (b : Broadcast). is_closed words b.records) taken ∙ stays-closed words records now.records closes in
+    cc
+not_ended words records (Some (EndsBy cause.Limit)) old (Some now) place broken few in_time still closes taken ends ended =
     most DATAGRAMS_MAX records now.records ends (subst (λ (b : Broadcast). length b.records < DATAGRAMS_MAX) taken few)
 
 ended_whole : (words : RxWords) (a b : Option Broadcast) (x y : Outputs) (result : Status) (r : IsRun words a b x y result)
-    → IsCutTrace words.until a → IsEnded r.ending → ⊥
-ended_whole words a b x y result r f ended = not_ended words r.records r.ending f.broadcast b f.place f.broken f.few f.in_time
+    → IsCutTrace words a → IsEnded r.ending → ⊥
+ended_whole words a b x y result r f ended = not_ended words r.records r.ending f.broadcast b f.place f.broken f.few f.in_time f.while_open r.closes
     (subst (λ (o : Option Broadcast). Becomes o b (Takes r.records)) f.told r.taken)
     (subst (λ (o : Option Broadcast). Becomes o b (λ _ now. IsEnding words r.records r.ending now)) f.told r.ends) ended
 
 pub found_broken : (words : RxWords) (a b : Option Broadcast) (x y : Outputs) (before after : ℕ) (result : Status) → IsRun words a b x y result
-    → (result ≡ status.AirFault → Rose before after) → IsCutTrace words.until a → IsUncounted before after x y → FindsBroken result
+    → (result ≡ status.AirFault → Rose before after) → IsCutTrace words a → IsUncounted before after x y → FindsBroken result
 found_broken words a b x y before after status.TraceBroken r cause f same = tt
 found_broken words a b x y before after status.Memory r cause f same = tt
 found_broken words a b x y before after status.Done r cause f same = absurd (ended_whole words a b x y status.Done r f r.left.ended)

@@ -1,5 +1,5 @@
 -- What is handed out after a datagram: nothing where no life waits, and the one life that has heard its file.
-use Rattle.std.proofs.Common.{◌≡◌, ◌<◌, ℕ, zero, suc, nat_lt, Bool, true, false, cond, List, [], ◌∷◌, map, length, get_or, set, Option, Some, None, refl, sym, ap, ◌∙◌, arith}
+use Rattle.std.proofs.Common.{◌≡◌, ◌<◌, ℕ, zero, suc, nat_lt, ◌||◌, Bool, true, false, cond, List, [], ◌∷◌, map, length, get_or, set, Option, Some, None, refl, sym, ap, ◌∙◌, arith}
 use Rattle.std.proofs.lemmas.Grind.{common_steps}
 use Rattle.mb_rx.specs.Receiver as receiver
 use Rattle.mb_rx.specs.Run.{Event, Line, Session, after_step, hand_out_events, put_events}
@@ -8,11 +8,16 @@ use Rattle.mb_rx.specs.declared.lives.Life.{Life}
 use Rattle.mb_rx.specs.declared.drops.Reason.{Reason}
 use Rattle.mb_rx.specs.declared.drops.Reason.TheVariants.{NotBuilt, Done}
 use Rattle.mb_rx.specs.declared.drops.Drops.{Drops}
+use Rattle.mb_rx.specs.declared.faults.Faults.{Faults}
+use Rattle.mb_alc.specs.declared.fault.PacketFault.{PacketFault}
+use Rattle.mb_alc.specs.Packet.{Body}
+use Rattle.mb_alc.specs.Words.{kind_of}
+use Rattle.mb_rx.specs.declared.table.Heard.{Heard}
+use Rattle.mb_rx.specs.declared.table.Heard.TheVariants.{Nothing, Instance, File}
 use Rattle.mb_rx.specs.declared.lives.Report.{Report}
-use Rattle.mb_rx.specs.declared.packet.InstanceHead.{InstanceHead}
 use Rattle.mb_fdt.specs.declared.fdt.Fdt.{Fdt}
 use Rattle.mb_rx.specs.Lines as line
-use Rattle.mb_rx.specs.Heard.{IsFileOf}
+use Rattle.mb_rx.specs.Heard.{IsFileOf, IsHeard}
 use Rattle.mb_rx.proofs.LivesLemmas.{life_of-at, lives_seen-set}
 use Rattle.std.proofs.lemmas.List.{get_or-set_same}
 
@@ -25,11 +30,21 @@ pub hand_out_events-seen : (lives : List Life) → hand_out_events (lives_seen l
 hand_out_events-seen [] = refl
 hand_out_events-seen (life ∷ lives) = hand_out_events-seen lives
 
--- a datagram that is dropped makes no event
-pub dropped-made : (clock : ℕ) (described : Bool) (lives : List Life) (drops : Drops) (reason : Reason)
-    → after_step [] (receiver.no_instance (receiver.drop_for reason (record { clock = clock; described = described; lives = lives_seen lives; drops = drops })))
-    ≡ record { receiver = record { clock = clock; described = described; lives = lives_seen lives; drops = receiver.counted reason drops }; events = [] }
-dropped-made clock described lives drops reason = rw (handed_out-seen lives, hand_out_events-seen lives) refl
+-- the receiver that the definitions see
+abbrev pub receiver_of : ℕ → Bool → Bool → List Life → Faults → Drops → receiver.Receiver
+receiver_of clock closed described lives faults drops =
+    record { clock = clock; closed = closed; described = described; lives = lives_seen lives; faults = faults; drops = drops }
+
+-- a datagram that is refused or dropped makes no event
+pub refused-made : (clock : ℕ) (closed described : Bool) (lives : List Life) (faults : Faults) (drops : Drops) (fault : PacketFault)
+    → after_step [] (receiver.no_instance (receiver.refuse_for fault (receiver_of clock closed described lives faults drops)))
+    ≡ record { receiver = receiver_of clock closed described lives (receiver.counted_fault (kind_of fault) faults) drops; events = [] }
+refused-made clock closed described lives faults drops fault = rw (handed_out-seen lives, hand_out_events-seen lives) refl
+
+pub dropped-made : (clock : ℕ) (closed described : Bool) (lives : List Life) (faults : Faults) (drops : Drops) (reason : Reason)
+    → after_step [] (receiver.no_instance (receiver.drop_for reason (receiver_of clock closed described lives faults drops)))
+    ≡ record { receiver = receiver_of clock closed described lives faults (receiver.counted reason drops); events = [] }
+dropped-made clock closed described lives faults drops reason = rw (handed_out-seen lives, hand_out_events-seen lives) refl
 
 -- the life has heard its file, and is the only one that waits
 pub handed_out-at : (toi place : ℕ) (lives : List Life) (life : Life) (payload : List ℕ) → IsLifeAt toi lives place life → life.done ≡ false
@@ -59,34 +74,52 @@ not_done false false e = refl
 abbrev session_of : receiver.Receiver → List Event → Session
 session_of r events = record { receiver = r; events = events }
 
-pub hear_symbol-made : (r : receiver.Receiver) (lives new : List Life) (toi payload_id place : ℕ) (payload : List ℕ)
+pub hear_symbols-made : (r : receiver.Receiver) (lives new : List Life) (toi place : ℕ) (body : Body)
     → r.lives ≡ lives_seen lives → IsHandedOut lives new toi place
-    → receiver.object_reason (receiver.life_of toi (lives_seen lives)) payload_id payload ≡ None
-    → IsFileOf (after_step [] (receiver.no_instance (receiver.hear_symbol r toi payload (receiver.object_reason (receiver.life_of toi r.lives) payload_id payload))))
-    (record r { lives = lives_seen new }) place payload
-hear_symbol-made r lives new toi payload_id place payload seen h none =
+    → receiver.object_reason (receiver.life_of toi (lives_seen lives)) body ≡ None
+    → IsFileOf (after_step [] (receiver.no_instance (receiver.hear_symbols r toi body.payload (receiver.object_reason (receiver.life_of toi r.lives) body))))
+    (record r { lives = lives_seen new }) place body.payload
+hear_symbols-made r lives new toi place body seen h none =
+    let payload = body.payload in
     let found : receiver.life_of toi (lives_seen lives) ≡ Some (life_seen h.life) = life_of-at toi lives place h.life h.at in
-    let free : receiver.object_reason (Some (life_seen h.life)) payload_id payload ≡ None = ap (λ (o : Option receiver.Life). receiver.object_reason o payload_id payload) (sym found) ∙ none in
+    let free : receiver.object_reason (Some (life_seen h.life)) body ≡ None = ap (λ (o : Option receiver.Life). receiver.object_reason o body) (sym found) ∙ none in
     let undone : h.life.done ≡ false = not_done _ h.life.done free in
     let done : receiver.Life = life_seen (record h.life { done = true }) in
     let set_there : lives_seen new ≡ set (lives_seen lives) place done = ap lives_seen h.now ∙ lives_seen-set lives place (record h.life { done = true }) in
     let within : place < length (lives_seen lives) = grind (arith, common_steps, h.within) in
-    let reason : receiver.object_reason (receiver.life_of toi r.lives) payload_id payload ≡ None =
-    ap (λ (xs : List receiver.Life). receiver.object_reason (receiver.life_of toi xs) payload_id payload) seen ∙ none in
+    let reason : receiver.object_reason (receiver.life_of toi r.lives) body ≡ None =
+    ap (λ (xs : List receiver.Life). receiver.object_reason (receiver.life_of toi xs) body) seen ∙ none in
     let heard : List receiver.Life = receiver.change_life toi (λ l. record l { heard = Some payload }) (lives_seen lives) in
     record {
       within = grind (arith, common_steps, set_there, within);
       life = done;
       at = ap (λ (xs : List receiver.Life). get_or xs place done) set_there ∙ get_or-set_same (lives_seen lives) place done done within;
-      made = ap (λ (o : Option Reason). after_step [] (receiver.no_instance (receiver.hear_symbol r toi payload o))) reason
+      made = ap (λ (o : Option Reason). after_step [] (receiver.no_instance (receiver.hear_symbols r toi payload o))) reason
           ∙ (ap (λ (xs : List receiver.Life). after_step [] (receiver.no_instance (record r { lives = receiver.change_life toi (λ l. record l { heard = Some payload }) xs }))) seen
           ∙ (ap (λ (xs : List receiver.Life). session_of (record r { lives = xs }) (hand_out_events heard)) (handed_out-at toi place lives h.life payload h.at undone ∙ ap lives_seen (sym h.now))
           ∙ ap (λ (es : List Event). session_of (record r { lives = lives_seen new }) es) (hand_out_events-at toi place lives h.life payload h.at undone)));
     }
 
-pub hear_text-made : (r : receiver.Receiver) (head : InstanceHead) (fdt : Fdt) (lives new : List Life) (report : Report)
+pub hear_text-made : (r : receiver.Receiver) (id : ℕ) (fdt : Fdt) (lives new : List Life) (report : Report)
     → r.lives ≡ lives_seen lives → r.described ≡ false → nat_lt fdt.expires r.clock ≡ false
     → receiver.with_instance fdt.expires fdt.files (lives_seen lives) ≡ record { lives = lives_seen new; report = report }
-    → after_step [] (receiver.hear_text r head (Some fdt))
-    ≡ record { receiver = record r { described = true; lives = lives_seen new }; events = Line (line.instance head.id report) ∷ [] }
-hear_text-made r head fdt lives new report seen first in_time done = rw (first, in_time, seen, done, handed_out-seen new, hand_out_events-seen new) refl
+    → after_step [] (receiver.hear_text r id (Some fdt))
+    ≡ record { receiver = record r { described = true; lives = lives_seen new }; events = Line (line.instance id report) ∷ [] }
+hear_text-made r id fdt lives new report seen first in_time done = rw (first, in_time, seen, done, handed_out-seen new, hand_out_events-seen new) refl
+
+-- A packet with Close Session.
+
+-- a session that is closed besides, or is not
+abbrev pub closed_by : Bool → Session → Session
+closed_by closing s = session_of (record s.receiver { closed = s.receiver.closed || closing }) s.events
+
+-- what was heard of a packet stays when it closes the session
+heard-closed : (closing : Bool) (after : Session) (new : receiver.Receiver) (heard : Heard) → IsHeard after new heard
+    → IsHeard (closed_by closing after) (record new { closed = new.closed || closing }) heard
+heard-closed closing after new Nothing is = ap (closed_by closing) is
+heard-closed closing after new (Instance id report) is = ap (closed_by closing) is
+heard-closed closing after new (File place payload) is = record { within = is.within; life = is.life; at = is.at; made = ap (closed_by closing) is.made }
+
+pub heard-packet : (s : receiver.Stepped) (new : receiver.Receiver) (heard : Heard) (closing : Bool) → IsHeard (after_step [] s) new heard
+    → IsHeard (after_step [] (receiver.close_if closing s)) (record new { closed = new.closed || closing }) heard
+heard-packet s new heard closing is = heard-closed closing (after_step [] s) new heard is

@@ -1,5 +1,5 @@
 -- Where the datagrams are honest, what is put is what was sent.
-use Rattle.std.proofs.Common.{◌≡◌, ℕ, ◌-◌, ◌≤◌, ◌==◌, ◌&&◌, ◌||◌, not, nat_lt, max, unwrap_or, Bool, true, false, cond, List, [], ◌∷◌, ◌++◌, length, take, replicate, Option, Some, None, is_some, codes, Result, Ok, Err, fold, filter, map, refl, sym, ap, ◌∙◌, arith, append-nil}
+use Rattle.std.proofs.Common.{◌≡◌, ℕ, ◌-◌, ◌≤◌, ◌==◌, ◌&&◌, ◌||◌, not, nat_lt, max, unwrap_or, Bool, true, false, cond, List, [], ◌∷◌, ◌++◌, length, take, replicate, Option, Some, None, is_some, Result, Ok, Err, fold, filter, map, flat_map, refl, sym, ap, ◌∙◌, arith, append-nil}
 use Rattle.std.specs.List.{AllByRecursion}
 use Rattle.std.proofs.lemmas.Bool.{eqb-true}
 use Rattle.std.proofs.lemmas.List.{take_all, take_at}
@@ -11,18 +11,20 @@ use Rattle.mb_fdt.specs.declared.fdt.FileFault.{FileFault}
 use Rattle.mb_fdt.specs.Reading.{instance_of}
 use Rattle.mb_fdt.specs.Written.{IsSmallFile, IsSmallEntry}
 use Rattle.mb_fdt.proofs.Law.{instance_takes}
-use Rattle.mb_rx.specs.Datagram.{Packet, packet_of}
-use Rattle.mb_rx.specs.Receiver.{Life, Receiver, Stepped, Described, fresh, drop_for, life_of, change_life, is_full, start_life, with_description, with_entry, after_entry, empty_report, with_instance, hear_text, object_reason, hear_symbol, hear_in_session, hear_packet, no_instance, step, is_ready, handed_out}
-use Rattle.mb_rx.specs.Run.{Event, Line, Session, after_record, session, count_line, drop_lines, incomplete_lines, end_events, file_of, Known}
+use Rattle.mb_alc.specs.Packet.{Packet, Body, packet_of}
+use Rattle.mb_alc.specs.Words.{kind_word, kinds}
+use Rattle.mb_alc.specs.declared.packet.Fti.{Fti}
+use Rattle.mb_alc.specs.declared.fault.PacketFault.{PacketFault}
+use Rattle.mb_rx.specs.Form.{Form, Text, Symbols, form_by, form_with}
+use Rattle.mb_rx.specs.Receiver.{Life, Receiver, Stepped, Described, fresh, drop_for, life_of, change_life, is_full, start_life, with_description, with_entry, after_entry, empty_report, with_instance, hear_text, object_reason, hear_symbols, hear_form, hear_in_session, hear_datagram, no_instance, step, is_ready, handed_out}
+use Rattle.mb_rx.specs.Run.{Event, Line, Session, after_record, session, count_line, fault_count, fault_lines, drop_count, drop_lines, reasons, incomplete_lines, end_events, file_of, Known}
 use Rattle.mb_rx.specs.Lines as line
-use Rattle.mb_rx.specs.SentSet.{SentSet, SentFile, IsSentEntry, IsSentText, IsHonestPacket, IsHonest, IsSentFile, symbol_of}
+use Rattle.mb_rx.specs.SentSet.{SentSet, SentFile, IsSentEntry, IsSentText, IsHonestForm, IsHonestPacket, IsHonest, IsSentFile, symbol_of}
 use Rattle.mb_rx.specs.declared.cause.Cause.{Cause}
-use Rattle.mb_rx.specs.declared.drops.Drops.{Drops}
 use Rattle.mb_rx.specs.declared.drops.Reason.{Reason}
-use Rattle.mb_rx.specs.declared.drops.Reason.TheVariants.{OtherSession, Done, NotBuilt}
+use Rattle.mb_rx.specs.declared.drops.Reason.TheVariants.{Closed, OtherSession, Done, NotBuilt}
 use Rattle.mb_rx.specs.declared.lives.Entered.{Entered}
 use Rattle.mb_rx.specs.declared.lives.Entered.TheVariants.{Started, Prolonged, Conflicting, Full}
-use Rattle.mb_rx.specs.declared.packet.InstanceHead.{InstanceHead}
 use Rattle.mb_rx.specs.declared.words.RxWords.{RxWords}
 use Rattle.mb_rx.specs.declared.cause.Ending.{Ending}
 use Rattle.mb_rx.specs.declared.cause.Ending.TheVariants.{EndsBy, BreaksAt}
@@ -46,15 +48,11 @@ puts_in-none xs ys p q = puts_in-append xs ys ∙ ap (λ files. files ++ puts_in
 puts_in-counted : (word : List ℕ) (n : ℕ) (events : List Event) → puts_in events ≡ [] → puts_in (count_line word n ++ events) ≡ []
 puts_in-counted word n events p = puts_in-none (count_line word n) events (puts_in-count_line word n) p
 
--- the lines of the drops put nothing
-puts_in-drop_lines : (d : Drops) → puts_in (drop_lines d) ≡ []
-puts_in-drop_lines d =
-    let not_built = count_line (codes "notbuilt") d.not_built in
-    let done = count_line (codes "done") d.done ++ not_built in
-    let unknown = count_line (codes "unknown") d.unknown ++ done in
-    puts_in-counted (codes "othersession") d.other_session unknown
-    (puts_in-counted (codes "unknown") d.unknown done
-    (puts_in-counted (codes "done") d.done not_built (puts_in-count_line (codes "notbuilt") d.not_built)))
+-- the lines of counts put nothing
+puts_in-counts : {K : Type 0} (word : K → List ℕ) (count : K → ℕ) (kinds : List K) → puts_in (flat_map (λ k. count_line (word k) (count k)) kinds) ≡ []
+puts_in-counts word count [] = refl
+puts_in-counts word count (k ∷ kinds) =
+    puts_in-counted (word k) (count k) (flat_map (λ x. count_line (word x) (count x)) kinds) (puts_in-counts word count kinds)
 
 -- lines put nothing, whatever their texts
 puts_in-lines : {X : Type 0} (text : X → List ℕ) (xs : List X) → puts_in (map (λ x. Line (text x)) xs) ≡ []
@@ -65,8 +63,9 @@ puts_in-lines text (x ∷ xs) = puts_in-lines text xs
 pub puts_in-end_events : (known : Known) (r : Receiver) (cause : Option Cause) → puts_in (end_events known r cause) ≡ []
 puts_in-end_events known r None = refl
 puts_in-end_events known r (Some cause) =
-    puts_in-none (drop_lines r.drops) (incomplete_lines r.lives) (puts_in-drop_lines r.drops)
-    (puts_in-lines (λ (life : Life). line.incomplete life.toi 1) (filter (λ (life : Life). not life.done) r.lives))
+    let incomplete = puts_in-lines (λ (life : Life). line.incomplete life.toi 1) (filter (λ (life : Life). not life.done) r.lives) in
+    puts_in-none (fault_lines r.faults kinds) (drop_lines r.drops reasons ++ incomplete_lines r.lives) (puts_in-counts kind_word (fault_count r.faults) kinds)
+    (puts_in-none (drop_lines r.drops reasons) (incomplete_lines r.lives) (puts_in-counts line.reason_word (drop_count r.drops) reasons) incomplete)
 
 -- what comes behind the session's events puts nothing
 puts_in-closing : (words : RxWords) (records : List Record) (ending : Option Ending) → puts_in (closing_events words records ending) ≡ []
@@ -177,18 +176,18 @@ keeps_entries sent expires s (e ∷ files) are small p =
     keeps_entries sent expires (after_entry expires s e) files are.1 small.1 (keeps_entry sent expires s.lives e.toi e.entry are.0 small.0 p)
 
 -- the packet's text is the one that was sent
-keeps_text : (sent : SentSet) (r : Receiver) (head : InstanceHead) (text : List ℕ) (fdt : Option Fdt)
-    → IsSentText sent head text → instance_of text ≡ fdt → AreSent sent r.lives → AreSent sent (hear_text r head fdt).receiver.lives
-keeps_text sent r head text None is e p = p
-keeps_text sent r head text (Some fdt) is e p =
+keeps_text : (sent : SentSet) (r : Receiver) (id : ℕ) (fti : Option Fti) (text : List ℕ) (fdt : Option Fdt)
+    → IsSentText sent id fti text → instance_of text ≡ fdt → AreSent sent r.lives → AreSent sent (hear_text r id fdt).receiver.lives
+keeps_text sent r id fti text None is e p = p
+keeps_text sent r id fti text (Some fdt) is e p =
     let reads : instance_of is.of.text ≡ Some fdt = ap instance_of (sym is.same_text) ∙ e in
     let entered = with_instance fdt.expires fdt.files r.lives in
     of_either (λ (stepped : Stepped). AreSent sent stepped.receiver.lives) (r.described || nat_lt fdt.expires r.clock)
     (no_instance (drop_for NotBuilt r))
-    (record { receiver = record r { described = true; lives = entered.lives }; read = Some (head.id, entered.report) })
+    (record { receiver = record r { described = true; lives = entered.lives }; read = Some (id, entered.report) })
     (λ _. p)
     (λ _. keeps_entries sent fdt.expires (record { lives = r.lives; report = empty_report }) fdt.files
-    (sent.entries head.id is.of fdt is.known reads) (instance_takes text fdt e).each p)
+    (sent.entries id is.of fdt is.known reads) (instance_takes text fdt e).each p)
 
 -- A symbol.
 
@@ -205,60 +204,79 @@ same_bytes t payload bytes same within e =
     sym (take_at payload (zeros payload) n refl) ∙ ap (take n) joined ∙ take_at bytes (zeros bytes) n (sym same)
 
 -- a life that hears its honest symbol has heard its file
-keeps_symbol : (sent : SentSet) (toi payload_id : ℕ) (payload : List ℕ) (life : Life)
-    → ((file : SentFile) → sent.files toi ≡ Some file → payload_id ≡ 0 → symbol_of file.desc.symbol payload ≡ symbol_of file.desc.symbol file.bytes)
-    → life.toi ≡ toi → payload_id ≡ 0 → length payload ≡ life.desc.length
-    → IsSentLife sent life → IsSentLife sent (record life { heard = Some payload })
-keeps_symbol sent toi payload_id payload life honest of zeroth long q =
+keeps_symbol : (sent : SentSet) (toi : ℕ) (body : Body) (life : Life)
+    → ((file : SentFile) → sent.files toi ≡ Some file → body.sbn ≡ 0 → body.esi ≡ 0 → symbol_of file.desc.symbol body.payload ≡ symbol_of file.desc.symbol file.bytes)
+    → life.toi ≡ toi → body.sbn ≡ 0 → body.esi ≡ 0 → length body.payload ≡ life.desc.length
+    → IsSentLife sent life → IsSentLife sent (record life { heard = Some body.payload })
+keeps_symbol sent toi body life honest of first zeroth long q =
+    let payload = body.payload in
     let file : SentFile = record { desc = life.desc; bytes = q.bytes } in
     let is : sent.files toi ≡ Some file = ap sent.files (sym of) ∙ q.known in
     let size : length q.bytes ≡ life.desc.length = sent.lengths toi file is in
-    let same : payload ≡ q.bytes = same_bytes life.desc.symbol payload q.bytes (long ∙ sym size) (omega (arith, q.one_symbol)) (honest file is zeroth) in
+    let same : payload ≡ q.bytes = same_bytes life.desc.symbol payload q.bytes (long ∙ sym size) (omega (arith, q.one_symbol)) (honest file is first zeroth) in
     record { bytes = q.bytes; known = q.known; one_symbol = q.one_symbol; heard = λ other e. cc }
 
--- two tests of which neither fails
-both_pass : (a b : Bool) → (not a || not b) ≡ false → (a ≡ true) × (b ≡ true)
-both_pass true true h = (refl, refl)
-both_pass true false h = cc
-both_pass false b h = cc
+-- three tests of which none fails
+record AllPass (a b c : Bool) : Type 0 where
+  first : a ≡ true
+  second : b ≡ true
+  third : c ≡ true
 
--- an honest symbol is dropped, or its life hears it
-keeps_object : (sent : SentSet) (r : Receiver) (toi payload_id : ℕ) (payload : List ℕ) (found : Option Life)
-    → ((file : SentFile) → sent.files toi ≡ Some file → payload_id ≡ 0 → symbol_of file.desc.symbol payload ≡ symbol_of file.desc.symbol file.bytes)
+all_pass : (a b c : Bool) → (not a || (not b || not c)) ≡ false → AllPass a b c
+all_pass true true true h = record { first = refl; second = refl; third = refl }
+all_pass true true false h = absurd cc
+all_pass true false c h = absurd cc
+all_pass false b c h = absurd cc
+
+-- honest symbols are dropped, or their life hears them
+keeps_object : (sent : SentSet) (r : Receiver) (toi : ℕ) (body : Body) (found : Option Life)
+    → ((file : SentFile) → sent.files toi ≡ Some file → body.sbn ≡ 0 → body.esi ≡ 0 → symbol_of file.desc.symbol body.payload ≡ symbol_of file.desc.symbol file.bytes)
     → life_of toi r.lives ≡ found → AreSent sent r.lives
-    → AreSent sent (hear_symbol r toi payload (object_reason found payload_id payload)).lives
-keeps_object sent r toi payload_id payload None honest e p = p
-keeps_object sent r toi payload_id payload (Some life) honest e p =
-    let Keeps : Option Reason → Type 0 = λ reason. AreSent sent (hear_symbol r toi payload reason).lives in
-    of_either Keeps (not (payload_id == 0) || not (length payload == life.desc.length))
+    → AreSent sent (hear_symbols r toi body.payload (object_reason found body)).lives
+keeps_object sent r toi body None honest e p = p
+keeps_object sent r toi body (Some life) honest e p =
+    let Keeps : Option Reason → Type 0 = λ reason. AreSent sent (hear_symbols r toi body.payload reason).lives in
+    of_either Keeps (not (body.sbn == 0) || (not (body.esi == 0) || not (length body.payload == life.desc.length)))
     (Some NotBuilt) (cond life.done (Some Done) None)
     (λ _. p)
     (λ good. of_either Keeps life.done (Some Done) None (λ _. p)
-    (λ _. all-change_life (IsSentLife sent) toi (λ l. record l { heard = Some payload }) r.lives
+    (λ _. all-change_life (IsSentLife sent) toi (λ l. record l { heard = Some body.payload }) r.lives
     (λ l found q.
-    let tests = both_pass (payload_id == 0) (length payload == life.desc.length) good in
+    let tests = all_pass (body.sbn == 0) (body.esi == 0) (length body.payload == life.desc.length) good in
     let is : life ≡ l = cc in
-    keeps_symbol sent toi payload_id payload l honest (found_is_of toi r.lives l found) (eqb-true payload_id 0 tests.0)
-    (eqb-true (length payload) life.desc.length tests.1 ∙ ap (λ (x : Life). x.desc.length) is) q) p))
+    keeps_symbol sent toi body l honest (found_is_of toi r.lives l found) (eqb-true body.sbn 0 tests.first) (eqb-true body.esi 0 tests.second)
+    (eqb-true (length body.payload) life.desc.length tests.third ∙ ap (λ (x : Life). x.desc.length) is) q) p))
 
 -- A record, and a session.
 
+-- what an honest packet brings
+keeps_form : (sent : SentSet) (r : Receiver) (fti : Option Fti) (form : Option Form) → ((f : Form) → form ≡ Some f → IsHonestForm sent fti f)
+    → AreSent sent r.lives → AreSent sent (hear_form r form).receiver.lives
+keeps_form sent r fti None honest h = h
+keeps_form sent r fti (Some (Text id text)) honest h = keeps_text sent r id fti text (instance_of text) (honest (Text id text) refl) refl h
+keeps_form sent r fti (Some (Symbols toi body)) honest h = keeps_object sent r toi body (life_of toi r.lives) (honest (Symbols toi body) refl) refl h
+
 -- an honest packet of the session
-keeps_in_session : (sent : SentSet) (r : Receiver) (p : Packet) (head : Option InstanceHead) → IsHonestPacket sent p head → AreSent sent r.lives
-    → AreSent sent (hear_in_session r p head).receiver.lives
-keeps_in_session sent r p (Some head) honest h = keeps_text sent r head p.payload (instance_of p.payload) honest refl h
-keeps_in_session sent r p None honest h = keeps_object sent r p.toi p.payload_id p.payload (life_of p.toi r.lives) honest refl h
+keeps_in_session : (sent : SentSet) (r : Receiver) (p : Packet) (toi : Option ℕ) (body : Option Body)
+    → ((f : Form) → form_by p.lct.cp p.exts toi body ≡ Some f → IsHonestForm sent p.exts.fti f)
+    → AreSent sent r.lives → AreSent sent (hear_in_session r p toi body).receiver.lives
+keeps_in_session sent r p None body honest h = h
+keeps_in_session sent r p (Some toi) None honest h = h
+keeps_in_session sent r p (Some toi) (Some body) honest h = keeps_form sent r p.exts.fti (form_with p.lct.cp p.exts toi body) honest h
 
 -- whatever the datagram is
-keeps_packet : (sent : SentSet) (tsi : ℕ) (r : Receiver) (packet : Option Packet)
-    → ((p : Packet) → packet ≡ Some p → p.tsi ≡ tsi → IsHonestPacket sent p p.instance)
-    → AreSent sent r.lives → AreSent sent (hear_packet tsi r packet).receiver.lives
-keeps_packet sent tsi r None honest h = h
-keeps_packet sent tsi r (Some p) honest h =
-    of_either (λ (stepped : Stepped). AreSent sent stepped.receiver.lives) (p.tsi == tsi)
-    (hear_in_session r p p.instance) (no_instance (drop_for OtherSession r))
-    (λ is. keeps_in_session sent r p p.instance (honest p refl (eqb-true p.tsi tsi is)) h)
+keeps_datagram : (sent : SentSet) (tsi : ℕ) (r : Receiver) (packet : Result Packet PacketFault)
+    → ((p : Packet) → packet ≡ Ok p → p.lct.tsi ≡ tsi → IsHonestPacket sent p)
+    → AreSent sent r.lives → AreSent sent (hear_datagram tsi r packet).receiver.lives
+keeps_datagram sent tsi r (Err fault) honest h = h
+keeps_datagram sent tsi r (Ok p) honest h =
+    let Keeps : Stepped → Type 0 = λ stepped. AreSent sent stepped.receiver.lives in
+    of_either Keeps r.closed (no_instance (drop_for Closed r))
+    (cond (p.lct.tsi == tsi) (hear_in_session r p p.lct.toi p.body) (no_instance (drop_for OtherSession r)))
     (λ _. h)
+    (λ _. of_either Keeps (p.lct.tsi == tsi) (hear_in_session r p p.lct.toi p.body) (no_instance (drop_for OtherSession r))
+    (λ is. keeps_in_session sent r p p.lct.toi p.body (honest p refl (eqb-true p.lct.tsi tsi is)) h)
+    (λ _. h))
 
 -- the bytes of a ready life are those that were heard
 ready_bytes : (heard : Option (List ℕ)) (done : Bool) (bytes : List ℕ) → ((payload : List ℕ) → heard ≡ Some payload → payload ≡ bytes)
@@ -294,7 +312,7 @@ puts_from sent tsi s [] honest lives puts = puts
 puts_from sent tsi s (heard ∷ records) honest lives puts =
     let r : Receiver = record s.receiver { clock = max s.receiver.clock heard.at } in
     let stepped = step tsi s.receiver heard in
-    let kept : AreSent sent stepped.receiver.lives = keeps_packet sent tsi r (packet_of heard.bytes) honest.0 lives in
+    let kept : AreSent sent stepped.receiver.lives = keeps_datagram sent tsi r (packet_of heard.bytes) honest.0 lives in
     let more : AllByRecursion (IsSentFile sent) (puts_in (s.events ++ events_at tsi s heard))
     = rw (puts_in-append s.events (events_at tsi s heard), puts_in-record tsi s heard)
     (all-append (IsSentFile sent) (puts_in s.events) _ puts (sent_files sent stepped.receiver.lives kept)) in

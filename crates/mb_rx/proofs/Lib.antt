@@ -1,4 +1,3 @@
-pub mod DatagramLemmas
 pub mod Making
 pub mod LivesLemmas
 pub mod HandOut

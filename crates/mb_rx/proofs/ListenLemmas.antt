@@ -1,6 +1,6 @@
 -- How listening goes on: what was taken from the air, what records make of a receiver one after another, and
 -- what was made or stopped.
-use Rattle.std.proofs.Common.{◌≡◌, ℕ, ◌<◌, ◌+◌, length, length-append, List, [], ◌∷◌, ◌++◌, fold, take, Option, Some, None, Result, Ok, Err, refl, sym, ap, subst, ◌∙◌, append_assoc, append-nil, arith}
+use Rattle.std.proofs.Common.{◌≡◌, ℕ, ◌<◌, ◌≤◌, ◌+◌, false, length, length-append, List, [], ◌∷◌, ◌++◌, fold, take, Option, Some, None, Result, Ok, Err, refl, sym, ap, subst, ◌∙◌, append_assoc, append-nil, arith}
 use Rattle.std.proofs.lemmas.List.Sums.{fold-append}
 use Rattle.mb_base.specs.Outside.{Becomes}
 use Rattle.mb_base.specs.Broadcast.{Record, Broadcast, Hears, IsPast}
@@ -15,9 +15,9 @@ use Rattle.mb_rx.specs.declared.cause.Ending.TheVariants.{EndsBy, BreaksAt}
 use Rattle.mb_rx.specs.declared.cause.Cause.TheVariants as cause
 use Rattle.mb_rx.specs.Receiver.{Receiver}
 use Rattle.mb_rx.specs.Run.{Event, Session, after_record}
-use Rattle.mb_rx.specs.Receive.{Outputs, Makes, Stops, Takes, IsEnding, IsOver}
+use Rattle.mb_rx.specs.Receive.{Outputs, Makes, Stops, Takes, IsEnding, IsOver, ClosesBy}
 use Rattle.mb_rx.specs.Listening as listening
-use Rattle.mb_rx.specs.Listening.{Plays, after_records}
+use Rattle.mb_rx.specs.Listening.{Plays, after_records, TakenOpen}
 use Rattle.mb_rx.proofs.Making.{Makes-nil, Makes-trans, Stops-after, Stops-memory}
 
 -- ---- the air
@@ -60,6 +60,11 @@ Hears-broken words place buf None b p = (tt, tt)
 Hears-broken words place buf (Some a) None p = absurd p
 Hears-broken words place buf (Some a) (Some b) p = (sym p.2, subst (IsOver (Some place)) (sym p.2) (record { none_left = p.0; end = p.1 }))
 
+-- where the air isn't asked, nothing changes
+pub closed-ending : (words : RxWords) (air : Option Broadcast) → Becomes air air (Takes []) × Becomes air air (λ _ now. IsEnding words [] (Some (EndsBy cause.Closed)) now)
+closed-ending words None = (tt, tt)
+closed-ending words (Some air) = (refl, tt)
+
 pub Hears-failed : (until : ℕ) (buf : List ℕ) (a b : Option Broadcast) → Becomes a b (Hears until Failed buf) → Becomes a b (Takes [])
 Hears-failed until buf None b p = tt
 Hears-failed until buf (Some a) None p = absurd p
@@ -73,7 +78,7 @@ ending-after words records ending (Some a) None c p q = absurd p
 ending-after words records ending (Some a) (Some b) None p q = absurd q
 ending-after words records (EndsBy cause.Quiet) (Some a) (Some b) (Some c) p q = q
 ending-after words records (EndsBy cause.Ended) (Some a) (Some b) (Some c) p q = q
-ending-after words records (EndsBy cause.Closed) (Some a) (Some b) (Some c) p q = absurd q
+ending-after words records (EndsBy cause.Closed) (Some a) (Some b) (Some c) p q = q
 ending-after words records (EndsBy cause.Limit) (Some a) (Some b) (Some c) p q = absurd (omega (arith, q))
 ending-after words records (BreaksAt place) (Some a) (Some b) (Some c) p q = q
 
@@ -97,31 +102,68 @@ pub after_records-append : (tsi : ℕ) (r : Receiver) (xs ys : List Record)
     }
 after_records-append tsi r xs ys = fold-append (after_record tsi) (record { receiver = r; events = [] }) xs ys ∙ fold-from tsi (after_records tsi r xs).receiver (after_records tsi r xs).events ys
 
+-- ---- records taken while the session was open
+
+pub TakenOpen-append : (tsi : ℕ) (r : Receiver) (xs ys : List Record) → TakenOpen tsi r xs → TakenOpen tsi (after_records tsi r xs).receiver ys → TakenOpen tsi r (xs ++ ys)
+TakenOpen-append tsi r [] ys p q = q
+TakenOpen-append tsi r (heard ∷ xs) ys p q =
+    let one = (after_records tsi r (heard ∷ [])).receiver in
+    let same : (after_records tsi r (heard ∷ xs)).receiver ≡ (after_records tsi one xs).receiver = ap (λ (s : Session). s.receiver) (after_records-append tsi r (heard ∷ []) xs) in
+    (p.0, TakenOpen-append tsi one xs ys p.1 (subst (λ (x : Receiver). TakenOpen tsi x ys) same q))
+
+-- a record was taken at the place where it stands
+pub TakenOpen-split : (tsi : ℕ) (r : Receiver) (before after : List Record) (heard : Record) → TakenOpen tsi r (before ++ heard ∷ after)
+    → (after_records tsi r before).receiver.closed ≡ false
+TakenOpen-split tsi r [] after heard p = p.0
+TakenOpen-split tsi r (x ∷ before) after heard p =
+    let one = (after_records tsi r (x ∷ [])).receiver in
+    ap (λ (s : Session). s.receiver.closed) (after_records-append tsi r (x ∷ []) before) ∙ TakenOpen-split tsi one before after heard p.1
+
+-- the next records were taken while it was open
+open-next : (tsi : ℕ) (r : Receiver) (records : List Record) → length records ≤ 1 → r.closed ≡ false → TakenOpen tsi r records
+open-next tsi r [] one still = tt
+open-next tsi r (heard ∷ []) one still = (still, tt)
+open-next tsi r (heard ∷ next ∷ records) one still = absurd (omega arith)
+
 -- ---- what was made, or stopped
 
 pub Plays-stopped : (A : Type 0) (reason : Status) (a b : Outputs) (events : List Event) → Stops reason a b events → Plays {A = A} a b events (Err reason)
 Plays-stopped A status.AirFault a b events s = absurd s.stop
 Plays-stopped A _ a b events s = s
 
+-- a failing air stops no event
+stops-no_air : (reason : Status) (a b : Outputs) (events : List Event) → reason ≡ status.AirFault → Stops reason a b events → ⊥
+stops-no_air reason a b events is s = let at : Stops status.AirFault a b events = subst (λ (r : Status). Stops r a b events) is s in at.stop
+
 -- ---- the next datagram
 
 -- a datagram was taken, and a status stopped its events
 pub hears-stopped : (words : RxWords) (air_before air_after : Option Broadcast) (old new : Receiver) (before after : Outputs)
     (heard : Record) (reason answer : Status) (result : Result (Option Ending) Status) → Becomes air_before air_after (Takes (heard ∷ []))
-    → result ≡ Err answer → answer ≡ reason → Stops reason before after (after_record words.tsi (record { receiver = old; events = [] }) heard).events
+    → result ≡ Err answer → answer ≡ reason → old.closed ≡ false → Stops reason before after (after_record words.tsi (record { receiver = old; events = [] }) heard).events
     → listening.Hears words air_before air_after old new before after result
-hears-stopped words air_before air_after old new before after heard reason answer result taken is same stopped =
+hears-stopped words air_before air_after old new before after heard reason answer result taken is same still stopped =
     subst (λ (x : Result (Option Ending) Status). listening.Hears words air_before air_after old new before after x) (sym (is ∙ ap Err same))
-    (record { records = heard ∷ []; taken = taken; one = omega arith; heard = tt; played = Plays-stopped (Option Ending) reason before after _ stopped })
+    (record {
+      records = heard ∷ [];
+      taken = taken;
+      one = omega arith;
+      asked = still;
+      failed = λ air. absurd (stops-no_air reason before after _ air stopped);
+      heard = tt;
+      played = Plays-stopped (Option Ending) reason before after _ stopped;
+    })
 
 -- no datagram was taken, for this is how the session ended
 pub hears-ending : (words : RxWords) (air_before air_after : Option Broadcast) (old : Receiver) (outputs : Outputs) (ending : Ending)
-    → Becomes air_before air_after (Takes []) × Becomes air_before air_after (λ _ air. IsEnding words [] (Some ending) air)
+    → ClosesBy (Some ending) old.closed → Becomes air_before air_after (Takes []) × Becomes air_before air_after (λ _ air. IsEnding words [] (Some ending) air)
     → listening.Hears words air_before air_after old old outputs outputs (Ok (Some ending))
-hears-ending words air_before air_after old outputs ending tells = record {
+hears-ending words air_before air_after old outputs ending closed tells = record {
   records = [];
   taken = tells.0;
   one = omega arith;
+  asked = closed;
+  failed = tt;
   heard = (refl, refl, tells.1);
   played = Makes-nil outputs;
 }
@@ -145,7 +187,8 @@ Plays-after A B status.ServeFault a b c xs ys m p = Stops-after status.ServeFaul
 Plays-after A B status.NoJ a b c xs ys m p = Stops-after status.NoJ a b c xs ys m p
 
 pub so_far-none : (words : RxWords) (air : Option Broadcast) (old : Receiver) (outputs : Outputs) → listening.IsHeardSoFar words 0 air air old old outputs outputs
-so_far-none words air old outputs = record { records = []; taken = Takes-none air; number = refl; heard = refl; made = Makes-nil outputs }
+so_far-none words air old outputs =
+    record { records = []; taken = Takes-none air; number = refl; while_open = tt; heard = refl; made = Makes-nil outputs }
 
 -- where the session goes on, a datagram was heard
 pub heard_on : (words : RxWords) (b c : Option Broadcast) (old new : Receiver) (y z : Outputs) (ending : Option Ending) → ending ≡ None
@@ -162,6 +205,7 @@ so_far-next words n a b c old mid new x y z s next =
       records = s.records ++ h.records;
       taken = Takes-trans a b c s.records h.records s.taken h.taken;
       number = length-append s.records h.records ∙ omega (arith, s.number, h.heard.0);
+      while_open = TakenOpen-append words.tsi old s.records h.records s.while_open (open-next words.tsi before.receiver h.records h.one h.asked);
       heard = h.heard.1 ∙ sym (ap (λ (r : Session). r.receiver) joined);
       made = subst (λ (es : List Event). Makes x z es) (sym (ap (λ (r : Session). r.events) joined)) (Makes-trans x y z before.events _ s.made h.played);
     }
@@ -177,6 +221,8 @@ listens-stopped words n a b c old mid new x y z reason answer result s room is s
       records = s.records ++ h.records;
       taken = Takes-trans a b c s.records h.records s.taken h.taken;
       within = let len : length (s.records ++ h.records) ≡ length s.records + length h.records = length-append s.records h.records in omega (arith, s.number, h.one, room, len);
+      while_open = TakenOpen-append words.tsi old s.records h.records s.while_open (open-next words.tsi before.receiver h.records h.one h.asked);
+      failed = λ air. ap (λ (r : Session). r.receiver.closed) joined ∙ h.failed air;
       heard = tt;
       played = subst (λ (es : List Event). Plays {A = Listened} x z es (Err reason)) (sym (ap (λ (r : Session). r.events) joined)) (Plays-after (Option Ending) Listened reason x y z before.events _ s.made h.played);
     })
@@ -186,4 +232,4 @@ pub listens-memory : (words : RxWords) (air : Option Broadcast) (old : Receiver)
     → result ≡ Err answer → answer ≡ status.Memory → listening.Listens words air air old old outputs outputs result
 listens-memory words air old outputs answer result is same =
     subst (λ (r : Result Listened Status). listening.Listens words air air old old outputs outputs r) (sym (is ∙ ap Err same))
-    (record { records = []; taken = Takes-none air; within = omega arith; heard = tt; played = Stops-memory outputs [] })
+    (record { records = []; taken = Takes-none air; within = omega arith; while_open = tt; failed = λ air. absurd cc; heard = tt; played = Stops-memory outputs [] })

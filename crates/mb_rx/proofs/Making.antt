@@ -114,30 +114,30 @@ Does-after a b c xs ys (Ok x) m d = Makes-trans a b c xs ys m d
 Does-after a b c xs ys (Err reason) m d = Stops-after reason a b c xs ys m d
 
 -- the events of a file that is put and printed
-pub stored-events : (life : Life) (payload location text : List ℕ) → location ≡ life.desc.location
-    → text ≡ line.stored life.toi (length payload) location
-    → (Put (record { toi = life.toi; location = location; bytes = payload }) ∷ []) ++ (Line text ∷ []) ≡ put_events (record life { heard = Some payload })
-stored-events life payload location text l t = rw (t, l) refl
+pub stored-events : (life : Life) (toi : ℕ) (payload location text : List ℕ) → toi ≡ life.toi → location ≡ life.desc.location
+    → text ≡ line.stored toi (length payload) location
+    → (Put (record { toi = toi; location = location; bytes = payload }) ∷ []) ++ (Line text ∷ []) ≡ put_events (record life { heard = Some payload })
+stored-events life toi payload location text t l is = rw (is, t, l) refl
 
 -- a file of which the store, memory or the sink gives no more
-pub stored-unput : (life : Life) (payload location : List ℕ) (reason : Status) (a b : Outputs) → location ≡ life.desc.location
-    → Stops reason a b (Put (record { toi = life.toi; location = location; bytes = payload }) ∷ [])
+pub stored-unput : (life : Life) (toi : ℕ) (payload location : List ℕ) (reason : Status) (a b : Outputs) → toi ≡ life.toi → location ≡ life.desc.location
+    → Stops reason a b (Put (record { toi = toi; location = location; bytes = payload }) ∷ [])
     → Stops reason a b (put_events (record life { heard = Some payload }))
-stored-unput life payload location reason a b l s =
-    subst (λ (es : List Event). Stops reason a b es) (stored-events life payload location _ l refl) (Stops-more reason a b _ _ s)
+stored-unput life toi payload location reason a b t l s =
+    subst (λ (es : List Event). Stops reason a b es) (stored-events life toi payload location _ t l refl) (Stops-more reason a b _ _ s)
 
-pub stored-memory : (life : Life) (payload location : List ℕ) (a b : Outputs) → location ≡ life.desc.location
-    → Makes a b (Put (record { toi = life.toi; location = location; bytes = payload }) ∷ [])
+pub stored-memory : (life : Life) (toi : ℕ) (payload location : List ℕ) (a b : Outputs) → toi ≡ life.toi → location ≡ life.desc.location
+    → Makes a b (Put (record { toi = toi; location = location; bytes = payload }) ∷ [])
     → Stops status.Memory a b (put_events (record life { heard = Some payload }))
-stored-memory life payload location a b l m =
-    subst (λ (es : List Event). Stops status.Memory a b es) (stored-events life payload location _ l refl) (Stops-after status.Memory a b b _ _ m (Stops-memory b _))
+stored-memory life toi payload location a b t l m =
+    subst (λ (es : List Event). Stops status.Memory a b es) (stored-events life toi payload location _ t l refl) (Stops-after status.Memory a b b _ _ m (Stops-memory b _))
 
-pub stored-printed : {A : Type 0} (life : Life) (payload location text : List ℕ) (a b c : Outputs) (result : Result A Status) → location ≡ life.desc.location
-    → text ≡ line.stored life.toi (length payload) location
-    → Makes a b (Put (record { toi = life.toi; location = location; bytes = payload }) ∷ []) → Does b c (Line text ∷ []) result
+pub stored-printed : {A : Type 0} (life : Life) (toi : ℕ) (payload location text : List ℕ) (a b c : Outputs) (result : Result A Status) → toi ≡ life.toi
+    → location ≡ life.desc.location → text ≡ line.stored toi (length payload) location
+    → Makes a b (Put (record { toi = toi; location = location; bytes = payload }) ∷ []) → Does b c (Line text ∷ []) result
     → Does a c (put_events (record life { heard = Some payload })) result
-stored-printed life payload location text a b c result l t m d =
-    subst (λ (es : List Event). Does a c es result) (stored-events life payload location text l t) (Does-after a b c _ _ result m d)
+stored-printed life toi payload location text a b c result t l is m d =
+    subst (λ (es : List Event). Does a c es result) (stored-events life toi payload location text t l is) (Does-after a b c _ _ result m d)
 
 -- what a result that stopped says, at the exit that hands it on
 pub Does-stopped : {A : Type 0} (reason answer : Status) (a b : Outputs) (events : List Event) (result : Result A Status)

@@ -1,6 +1,7 @@
 -- How parts that only print join, and the lines of lives.
-use Rattle.std.proofs.Common.{◌≡◌, ℕ, ◌+◌, ◌<◌, ◌&&◌, ◌==◌, not, Bool, true, false, cond, List, [], ◌∷◌, ◌++◌, length, take, drop, get_or, Option, Result, Ok, Err, IsErrAnd, map, filter, refl, sym, ap, ◌∙◌, subst, append_assoc, arith}
+use Rattle.std.proofs.Common.{◌≡◌, ℕ, ◌+◌, ◌<◌, ◌&&◌, ◌==◌, not, Bool, true, false, cond, List, [], ◌∷◌, ◌++◌, length, take, drop, get_or, Option, Result, Ok, Err, IsErrAnd, map, filter, flat_map, refl, sym, ap, ◌∙◌, subst, append_assoc, append-nil, arith}
 use Rattle.std.proofs.lemmas.List.{map-append, take-append-drop, take_more}
+use Rattle.std.proofs.lemmas.List.Concat.{flat_map-append}
 use Rattle.std.proofs.lemmas.Bool.Decides.{nat_tests}
 use Rattle.std.specs.List.{list_all}
 use Rattle.mb_base.specs.Files.{File}
@@ -52,6 +53,28 @@ not_zero n some = grind (arith, nat_tests)
 
 pub count_line-some : (word : List ℕ) (n : ℕ) → (n ≡ 0 → ⊥) → count_line word n ≡ Line (line.dropped word n) ∷ []
 count_line-some word n some = ap (λ b. cond b [] (Line (line.dropped word n) ∷ [])) (not_zero n some)
+
+-- the lines of counts up to one, and its own
+pub flat_map-more : {K : Type 0} (f : K → List Event) (ks : List K) (i : ℕ) (d : K) → i < length ks
+    → flat_map f (take (i + 1) ks) ≡ flat_map f (take i ks) ++ f (get_or ks i d)
+flat_map-more f ks i d below =
+    ap (flat_map f) (take_more ks i d below) ∙ (flat_map-append f (take i ks) (get_or ks i d ∷ [])
+    ∙ ap (λ x. flat_map f (take i ks) ++ x) (append-nil (f (get_or ks i d))))
+
+-- and the lines of the counts behind it
+pub flat_map-at : {K : Type 0} (f : K → List Event) (ks : List K) (i : ℕ) (d : K) → i < length ks
+    → flat_map f (take i ks) ++ (f (get_or ks i d) ++ flat_map f (drop (i + 1) ks)) ≡ flat_map f ks
+flat_map-at f ks i d below =
+    sym (append_assoc (flat_map f (take i ks)) (f (get_or ks i d)) (flat_map f (drop (i + 1) ks)))
+    ∙ (ap (λ x. x ++ flat_map f (drop (i + 1) ks)) (sym (flat_map-more f ks i d below))
+    ∙ (sym (flat_map-append f (take (i + 1) ks) (drop (i + 1) ks)) ∙ ap (flat_map f) (take-append-drop (i + 1) ks)))
+
+-- a part that stops, told in another way
+pub Stops-same : (reason : Status) (old : Option (List ℕ)) (before : ℕ) (new : Option (List ℕ)) (after : ℕ) (xs ys : List Event) → xs ≡ ys
+    → ((files : Option (List File)) (faults : ℕ) → Stops reason (outputs files faults old before) (outputs files faults new after) xs)
+    → (files : Option (List File)) (faults : ℕ) → Stops reason (outputs files faults old before) (outputs files faults new after) ys
+Stops-same reason old before new after xs ys same p files faults =
+    subst (λ (events : List Event). Stops reason (outputs files faults old before) (outputs files faults new after) events) same (p files faults)
 
 -- The lines of lives.
 

@@ -1,5 +1,5 @@
 pub mod Words
-pub mod Datagram
+pub mod Form
 pub mod Receiver
 pub mod Lines
 pub mod Run

@@ -3,6 +3,8 @@ use Rattle.std.specs.Prelude.{ℕ, ◌/◌, ◌%◌, ◌==◌, ◌+◌, ◌||◌
 use Rattle.mb_rx.specs.declared.cause.Cause.{Cause}
 use Rattle.mb_rx.specs.declared.cause.Cause.TheVariants.{Quiet, Ended, Closed, Limit}
 use Rattle.mb_rx.specs.declared.lives.Report.{Report}
+use Rattle.mb_rx.specs.declared.drops.Reason.{Reason}
+use Rattle.mb_rx.specs.declared.drops.Reason.TheVariants as reason
 
 -- one of sixteen digits, in upper case
 abbrev pub hex_digit : ℕ → ℕ
@@ -44,6 +46,15 @@ cause_word Limit = codes "limit"
 abbrev pub end : Cause → ℕ → ℕ → List ℕ
 end cause moment datagrams = codes "end " ++ (cause_word cause ++ (codes " " ++ (decimal moment
     ++ (codes " datagrams " ++ (decimal datagrams ++ codes "\n")))))
+
+abbrev pub reason_word : Reason → List ℕ
+reason_word reason.Closed = codes "closed"
+reason_word reason.OtherSession = codes "othersession"
+reason_word reason.NoToi = codes "notoi"
+reason_word reason.NoBody = codes "nobody"
+reason_word reason.Unknown = codes "unknown"
+reason_word reason.Done = codes "done"
+reason_word reason.NotBuilt = codes "notbuilt"
 
 abbrev pub dropped : List ℕ → ℕ → List ℕ
 dropped word n = codes "dropped " ++ (word ++ (codes " " ++ (decimal n ++ codes "\n")))

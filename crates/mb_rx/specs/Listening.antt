@@ -1,5 +1,5 @@
 -- What listening to a session did, datagram by datagram and as a whole.
-use Rattle.std.specs.Prelude.{◌≡◌, ℕ, ◌≤◌, List, [], length, fold, Option, Some, None, Result, Ok, Err, ⊤}
+use Rattle.std.specs.Prelude.{◌≡◌, ℕ, ◌≤◌, Bool, false, List, [], ◌∷◌, length, fold, Option, Some, None, Result, Ok, Err, ⊤}
 use Rattle.mb_base.specs.Outside.{Becomes}
 use Rattle.mb_base.specs.Broadcast.{Record, Broadcast}
 use Rattle.mb_base.specs.declared.outcome.Status.{Status}
@@ -10,7 +10,7 @@ use Rattle.mb_rx.specs.declared.session.Listened.{Listened}
 use Rattle.mb_rx.specs.declared.words.RxWords.{RxWords}
 use Rattle.mb_rx.specs.Receiver.{Receiver}
 use Rattle.mb_rx.specs.Run.{Session, Event, after_record}
-use Rattle.mb_rx.specs.Receive.{Outputs, Makes, Stops, Takes, IsEnding}
+use Rattle.mb_rx.specs.Receive.{Outputs, Makes, Stops, Takes, IsEnding, ClosesBy}
 
 -- What a part of a session makes: its events, or those up to where a status stops it. A failing air stops
 -- behind all of them.
@@ -22,6 +22,22 @@ Plays before after events (Err reason) = Stops reason before after events
 -- what the records make of a receiver
 abbrev pub after_records : ℕ → Receiver → List Record → Session
 after_records tsi r records = fold (after_record tsi) (record { receiver = r; events = [] }) records
+
+-- Each record was taken while the session was open.
+abbrev pub TakenOpen : ℕ → Receiver → List Record → Type 0
+TakenOpen tsi r [] = ⊤
+TakenOpen tsi r (heard ∷ records) = (r.closed ≡ false) × TakenOpen tsi (after_records tsi r (heard ∷ [])).receiver records
+
+-- The air is asked while the session is open alone.
+abbrev pub AsksOpen : Bool → Result (Option Ending) Status → Type 0
+AsksOpen closed (Ok None) = closed ≡ false
+AsksOpen closed (Ok (Some ending)) = ClosesBy (Some ending) closed
+AsksOpen closed (Err reason) = closed ≡ false
+
+-- a failing air was asked
+abbrev pub FailsOpen : {A : Type 0} → Bool → Result A Status → Type 0
+FailsOpen closed (Ok x) = ⊤
+FailsOpen closed (Err reason) = reason ≡ status.AirFault → closed ≡ false
 
 -- The next datagram was heard and its events were made, or there is none.
 abbrev pub IsNext : RxWords → List Record → Option Broadcast → Option Broadcast → Receiver → Receiver → Result (Option Ending) Status → Type 0
@@ -35,13 +51,15 @@ pub record Hears (words : RxWords) (air_before air_after : Option Broadcast) (ol
   pub records : List Record
   pub taken : Becomes air_before air_after (Takes records)
   pub one : length records ≤ 1
+  pub asked : AsksOpen old.closed result
+  pub failed : FailsOpen (after_records words.tsi old records).receiver.closed result
   pub heard : IsNext words records air_before air_after (after_records words.tsi old records).receiver new result
   pub played : Plays before after (after_records words.tsi old records).events result
 
 -- How listening ended: every datagram that came was heard.
 abbrev pub IsListened : RxWords → List Record → Option Broadcast → Option Broadcast → Receiver → Receiver → Result Listened Status → Type 0
 IsListened words records air_before air_after expected new (Ok listened) = (new ≡ expected) × (listened.datagrams ≡ length records)
-    × Becomes air_before air_after (λ _ air. IsEnding words records (Some listened.ending) air)
+    × ClosesBy (Some listened.ending) expected.closed × Becomes air_before air_after (λ _ air. IsEnding words records (Some listened.ending) air)
 IsListened words records air_before air_after expected new (Err reason) = ⊤
 
 pub record Listens (words : RxWords) (air_before air_after : Option Broadcast) (old new : Receiver) (before after : Outputs)
@@ -49,6 +67,8 @@ pub record Listens (words : RxWords) (air_before air_after : Option Broadcast) (
   pub records : List Record
   pub taken : Becomes air_before air_after (Takes records)
   pub within : length records ≤ DATAGRAMS_MAX
+  pub while_open : TakenOpen words.tsi old records
+  pub failed : FailsOpen (after_records words.tsi old records).receiver.closed result
   pub heard : IsListened words records air_before air_after (after_records words.tsi old records).receiver new result
   pub played : Plays before after (after_records words.tsi old records).events result
 
@@ -57,5 +77,6 @@ pub record IsHeardSoFar (words : RxWords) (datagrams : ℕ) (air_before air_afte
   pub records : List Record
   pub taken : Becomes air_before air_after (Takes records)
   pub number : length records ≡ datagrams
+  pub while_open : TakenOpen words.tsi old records
   pub heard : new ≡ (after_records words.tsi old records).receiver
   pub made : Makes before after (after_records words.tsi old records).events

@@ -100,9 +100,26 @@ abbrev pub IsEnding : RxWords → List Record → Option Ending → Broadcast �
 IsEnding words records None air = ⊤
 IsEnding words records (Some (EndsBy Quiet)) air = IsPast words.until air.records
 IsEnding words records (Some (EndsBy Ended)) air = IsOver None air
-IsEnding words records (Some (EndsBy Closed)) air = ⊥
+IsEnding words records (Some (EndsBy Closed)) air = ⊤
 IsEnding words records (Some (EndsBy Limit)) air = length records ≡ DATAGRAMS_MAX
 IsEnding words records (Some (BreaksAt place)) air = IsOver (Some place) air
+
+-- the sender closed the session with these records
+abbrev pub is_closed : RxWords → List Record → Bool
+is_closed words records = (session words.tsi records).receiver.closed
+
+-- A session that the sender closed has ended so, and no other has.
+abbrev pub ClosesBy : Option Ending → Bool → Type 0
+ClosesBy None closed = ⊤
+ClosesBy (Some (EndsBy Quiet)) closed = closed ≡ false
+ClosesBy (Some (EndsBy Ended)) closed = closed ≡ false
+ClosesBy (Some (EndsBy Closed)) closed = closed ≡ true
+ClosesBy (Some (EndsBy Limit)) closed = closed ≡ false
+ClosesBy (Some (BreaksAt place)) closed = closed ≡ false
+
+-- no record was taken once the sender had closed the session
+abbrev pub TakesWhileOpen : RxWords → List Record → Type 0
+TakesWhileOpen words records = (before after : List Record) (heard : Record) → records ≡ before ++ heard ∷ after → is_closed words before ≡ false
 
 -- these records were taken, and nothing else changed
 abbrev pub Takes : List Record → Broadcast → Broadcast → Type 0
@@ -140,7 +157,7 @@ abbrev pub Leaves : Status → RxWords → List Record → Option Ending → Out
 Leaves status.Done words records ending before after = Finishes true words records ending before after
 Leaves status.Incomplete words records ending before after = Finishes false words records ending before after
 Leaves status.TraceBroken words records ending before after = IsBroken ending × Makes before after (events_by words records ending)
-Leaves status.AirFault words records ending before after = (ending ≡ None) × Makes before after (events_by words records ending)
+Leaves status.AirFault words records ending before after = (ending ≡ None) × (is_closed words records ≡ false) × Makes before after (events_by words records ending)
 Leaves status.StoreFault words records ending before after = Stops status.StoreFault before after (events_by words records ending)
 Leaves status.OutFault words records ending before after = Stops status.OutFault before after (events_by words records ending)
 Leaves status.Memory words records ending before after = Stops status.Memory before after (events_by words records ending)
@@ -158,8 +175,10 @@ pub record IsRun (words : RxWords) (air_before air_after : Option Broadcast) (be
   pub records : List Record
   pub taken : Becomes air_before air_after (Takes records)
   pub within : length records ≤ DATAGRAMS_MAX
+  pub while_open : TakesWhileOpen words records
   -- none where the session had not ended
   pub ending : Option Ending
+  pub closes : ClosesBy ending (is_closed words records)
   pub ends : Becomes air_before air_after (λ _ air. IsEnding words records ending air)
   pub left : Leaves result words records ending before after
   -- where the datagrams are honest, what is put is what was sent
@@ -193,14 +212,15 @@ pub record IsWholeTrace (air : Option Broadcast) : Type 0 where
   pub unbroken : broadcast.broken ≡ None
 
 -- The air tells a trace that is broken, and the session listens up to there: the records are fewer than it
--- takes at most, and none is later than it listens.
-pub record IsCutTrace (until : ℕ) (air : Option Broadcast) : Type 0 where
+-- takes at most, none is later than it listens, and the sender does not close it.
+pub record IsCutTrace (words : RxWords) (air : Option Broadcast) : Type 0 where
   pub broadcast : Broadcast
   pub told : air ≡ Some broadcast
   pub place : ℕ
   pub broken : broadcast.broken ≡ Some place
   pub few : length broadcast.records < DATAGRAMS_MAX
-  pub in_time : AllByRecursion (λ heard. heard.at ≤ until) broadcast.records
+  pub in_time : AllByRecursion (λ heard. heard.at ≤ words.until) broadcast.records
+  pub while_open : is_closed words broadcast.records ≡ false
 
 -- the session was received to its end, or memory was wanting
 abbrev pub Completes : Status → Type 0

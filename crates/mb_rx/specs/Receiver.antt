@@ -6,14 +6,19 @@ use Rattle.mb_fdt.specs.declared.fdt.Fdt.{Fdt}
 use Rattle.mb_fdt.specs.declared.fdt.FileEntry.{FileEntry}
 use Rattle.mb_fdt.specs.declared.fdt.FileFault.{FileFault}
 use Rattle.mb_fdt.specs.Reading.{instance_of}
-use Rattle.mb_rx.specs.Datagram.{Packet, packet_of}
+use Rattle.mb_alc.specs.Packet.{Packet, Body, packet_of}
+use Rattle.mb_alc.specs.Words.{kind_of}
+use Rattle.mb_alc.specs.declared.fault.PacketFault.{PacketFault}
+use Rattle.mb_alc.specs.declared.fault.FaultKind.{FaultKind}
+use Rattle.mb_alc.specs.declared.fault.FaultKind.TheVariants as kind
+use Rattle.mb_rx.specs.Form.{Form, Text, Symbols, form_with}
+use Rattle.mb_rx.specs.declared.faults.Faults.{Faults}
 use Rattle.mb_rx.specs.declared.drops.Reason.{Reason}
-use Rattle.mb_rx.specs.declared.drops.Reason.TheVariants.{OtherSession, Unknown, Done, NotBuilt}
+use Rattle.mb_rx.specs.declared.drops.Reason.TheVariants.{Closed, OtherSession, NoToi, NoBody, Unknown, Done, NotBuilt}
 use Rattle.mb_rx.specs.declared.drops.Drops.{Drops}
 use Rattle.mb_rx.specs.declared.lives.Report.{Report}
 use Rattle.mb_rx.specs.declared.lives.Entered.{Entered}
 use Rattle.mb_rx.specs.declared.lives.Entered.TheVariants.{Started, Prolonged, Conflicting, Refused, Full}
-use Rattle.mb_rx.specs.declared.packet.InstanceHead.{InstanceHead}
 
 -- One TOI under one description. What was heard and isn't handed out yet is the file's one symbol.
 pub record Life : Type 0 where
@@ -26,15 +31,37 @@ pub record Life : Type 0 where
 pub record Receiver : Type 0 where
   -- the greatest moment so far
   pub clock : ℕ
+  -- whether the sender closed the session
+  pub closed : Bool
   -- whether an FDT Instance was read
   pub described : Bool
   -- in the order in which they started
   pub lives : List Life
+  -- the datagrams that are no packet
+  pub faults : Faults
+  -- the packets that were dropped
   pub drops : Drops
+
+abbrev pub no_faults : Faults
+no_faults = record {
+  short = 0;
+  version = 0;
+  header_length = 0;
+  no_tsi = 0;
+  overrun = 0;
+  zero_length = 0;
+  fti_length = 0;
+  flute_version = 0;
+  code_point = 0;
+  no_payload_id = 0;
+}
+
+abbrev pub no_drops : Drops
+no_drops = record { closed = 0; other_session = 0; no_toi = 0; no_body = 0; unknown = 0; done = 0; not_built = 0 }
 
 -- before anything is heard
 abbrev pub fresh : Receiver
-fresh = record { clock = 0; described = false; lives = []; drops = record { other_session = 0; unknown = 0; done = 0; not_built = 0 } }
+fresh = record { clock = 0; closed = false; described = false; lives = []; faults = no_faults; drops = no_drops }
 
 -- a count that rises stands still at the last value of its 64 or 32 bits
 abbrev pub raised : ℕ → ℕ
@@ -43,11 +70,29 @@ raised n = min (n + 1) (2 ^ 64 - 1)
 abbrev pub risen : ℕ → ℕ
 risen n = min (n + 1) (2 ^ 32 - 1)
 
+abbrev pub counted_fault : FaultKind → Faults → Faults
+counted_fault kind.Short f = record f { short = raised f.short }
+counted_fault kind.Version f = record f { version = raised f.version }
+counted_fault kind.HeaderLength f = record f { header_length = raised f.header_length }
+counted_fault kind.NoTsi f = record f { no_tsi = raised f.no_tsi }
+counted_fault kind.Overrun f = record f { overrun = raised f.overrun }
+counted_fault kind.ZeroLength f = record f { zero_length = raised f.zero_length }
+counted_fault kind.FtiLength f = record f { fti_length = raised f.fti_length }
+counted_fault kind.FluteVersion f = record f { flute_version = raised f.flute_version }
+counted_fault kind.CodePoint f = record f { code_point = raised f.code_point }
+counted_fault kind.NoPayloadId f = record f { no_payload_id = raised f.no_payload_id }
+
 abbrev pub counted : Reason → Drops → Drops
+counted Closed d = record d { closed = raised d.closed }
 counted OtherSession d = record d { other_session = raised d.other_session }
+counted NoToi d = record d { no_toi = raised d.no_toi }
+counted NoBody d = record d { no_body = raised d.no_body }
 counted Unknown d = record d { unknown = raised d.unknown }
 counted Done d = record d { done = raised d.done }
 counted NotBuilt d = record d { not_built = raised d.not_built }
+
+abbrev pub refuse_for : PacketFault → Receiver → Receiver
+refuse_for fault r = record r { faults = counted_fault (kind_of fault) r.faults }
 
 abbrev pub drop_for : Reason → Receiver → Receiver
 drop_for reason r = record r { drops = counted reason r.drops }
@@ -125,37 +170,59 @@ abbrev pub no_instance : Receiver → Stepped
 no_instance r = record { receiver = r; read = None }
 
 -- The text of an instance describes files where none did before, it is one, and it hasn't expired.
-abbrev pub hear_text : Receiver → InstanceHead → Option Fdt → Stepped
-hear_text r head None = no_instance (drop_for NotBuilt r)
-hear_text r head (Some fdt) =
+abbrev pub hear_text : Receiver → ℕ → Option Fdt → Stepped
+hear_text r id None = no_instance (drop_for NotBuilt r)
+hear_text r id (Some fdt) =
     if r.described || nat_lt fdt.expires r.clock then no_instance (drop_for NotBuilt r)
     else let s = with_instance fdt.expires fdt.files r.lives in
-    record { receiver = record r { described = true; lives = s.lives }; read = Some (head.id, s.report) }
+    record { receiver = record r { described = true; lives = s.lives }; read = Some (id, s.report) }
 
--- the first reason why bytes of a file are dropped
-abbrev pub object_reason : Option Life → ℕ → List ℕ → Option Reason
-object_reason None payload_id payload = Some Unknown
-object_reason (Some life) payload_id payload =
-    if not (payload_id == 0) || not (length payload == life.desc.length) then Some NotBuilt
+-- the first reason why symbols of an object are dropped
+abbrev pub object_reason : Option Life → Body → Option Reason
+object_reason None body = Some Unknown
+object_reason (Some life) body =
+    if not (body.sbn == 0) || (not (body.esi == 0) || not (length body.payload == life.desc.length)) then Some NotBuilt
     else if life.done then Some Done
     else None
 
-abbrev pub hear_symbol : Receiver → ℕ → List ℕ → Option Reason → Receiver
-hear_symbol r toi payload (Some reason) = drop_for reason r
-hear_symbol r toi payload None = record r { lives = change_life toi (λ life. record life { heard = Some payload }) r.lives }
+abbrev pub hear_symbols : Receiver → ℕ → List ℕ → Option Reason → Receiver
+hear_symbols r toi payload (Some reason) = drop_for reason r
+hear_symbols r toi payload None = record r { lives = change_life toi (λ life. record life { heard = Some payload }) r.lives }
 
-abbrev pub hear_in_session : Receiver → Packet → Option InstanceHead → Stepped
-hear_in_session r p (Some head) = hear_text r head (instance_of p.payload)
-hear_in_session r p None = no_instance (hear_symbol r p.toi p.payload (object_reason (life_of p.toi r.lives) p.payload_id p.payload))
+-- what a packet brings
+abbrev pub hear_form : Receiver → Option Form → Stepped
+hear_form r None = no_instance (drop_for NotBuilt r)
+hear_form r (Some (Text id text)) = hear_text r id (instance_of text)
+hear_form r (Some (Symbols toi body)) = no_instance (hear_symbols r toi body.payload (object_reason (life_of toi r.lives) body))
 
-abbrev pub hear_packet : ℕ → Receiver → Option Packet → Stepped
-hear_packet tsi r None = no_instance (drop_for NotBuilt r)
-hear_packet tsi r (Some p) =
-    if p.tsi == tsi then hear_in_session r p p.instance else no_instance (drop_for OtherSession r)
+-- a packet of the session, by its TOI and its body
+abbrev pub hear_in_session : Receiver → Packet → Option ℕ → Option Body → Stepped
+hear_in_session r p None body = no_instance (drop_for NoToi r)
+hear_in_session r p (Some toi) None = no_instance (drop_for NoBody r)
+hear_in_session r p (Some toi) (Some body) = hear_form r (form_with p.lct.cp p.exts toi body)
+
+-- a packet is dropped where the session is closed, or where it is of another session
+abbrev pub hear_packet : ℕ → Receiver → Packet → Stepped
+hear_packet tsi r p =
+    if r.closed then no_instance (drop_for Closed r)
+    else if p.lct.tsi == tsi then hear_in_session r p p.lct.toi p.body
+    else no_instance (drop_for OtherSession r)
+
+-- a packet of the session with Close Session closes it, whatever became of the packet
+abbrev pub closes : ℕ → Packet → Bool
+closes tsi p = (p.lct.tsi == tsi) && p.lct.close_session
+
+abbrev pub close_if : Bool → Stepped → Stepped
+close_if closing s = record { receiver = record s.receiver { closed = s.receiver.closed || closing }; read = s.read }
+
+-- what a datagram is
+abbrev pub hear_datagram : ℕ → Receiver → Result Packet PacketFault → Stepped
+hear_datagram tsi r (Ok p) = close_if (closes tsi p) (hear_packet tsi r p)
+hear_datagram tsi r (Err fault) = no_instance (refuse_for fault r)
 
 -- one step of the receiver of a session: the clock moves, and the datagram is heard or dropped
 abbrev pub step : ℕ → Receiver → Record → Stepped
-step tsi r heard = hear_packet tsi (record r { clock = max r.clock heard.at }) (packet_of heard.bytes)
+step tsi r heard = hear_datagram tsi (record r { clock = max r.clock heard.at }) (packet_of heard.bytes)
 
 -- The file of a life.
 

@@ -1,12 +1,18 @@
 -- A whole run of the receiver: the events that it has made, from what is known so far.
-use Rattle.std.specs.Prelude.{◌≡◌, ℕ, ◌==◌, Bool, not, List, [], ◌∷◌, ◌++◌, length, map, fold, filter, flat_map, Option, Some, None, codes, if◌then◌else◌}
+use Rattle.std.specs.Prelude.{◌≡◌, ℕ, ◌==◌, Bool, not, List, [], ◌∷◌, ◌++◌, length, map, fold, filter, flat_map, Option, Some, None, if◌then◌else◌}
 use Rattle.std.specs.List.{list_all}
 use Rattle.mb_base.specs.Files.{File}
 use Rattle.mb_base.specs.Broadcast.{Record}
 use Rattle.mb_rx.specs.Receiver.{Receiver, Stepped, Life, fresh, step, is_ready, bytes_of, handed_out}
 use Rattle.mb_rx.specs.Lines as line
 use Rattle.mb_rx.specs.declared.lives.Report.{Report}
+use Rattle.mb_alc.specs.Words.{kind_word, kinds}
+use Rattle.mb_alc.specs.declared.fault.FaultKind.{FaultKind}
+use Rattle.mb_alc.specs.declared.fault.FaultKind.TheVariants as kind
+use Rattle.mb_rx.specs.declared.faults.Faults.{Faults}
 use Rattle.mb_rx.specs.declared.drops.Drops.{Drops}
+use Rattle.mb_rx.specs.declared.drops.Reason.{Reason}
+use Rattle.mb_rx.specs.declared.drops.Reason.TheVariants as reason
 use Rattle.mb_rx.specs.declared.cause.Cause.{Cause}
 use Rattle.mb_rx.specs.declared.cause.Cause.TheVariants.{Quiet, Ended, Closed, Limit}
 use Rattle.mb_rx.specs.declared.words.RxWords.{RxWords}
@@ -84,11 +90,39 @@ end_moment words Limit r = r.clock
 abbrev pub count_line : List ℕ → ℕ → List Event
 count_line word n = if n == 0 then [] else Line (line.dropped word n) ∷ []
 
-abbrev pub drop_lines : Drops → List Event
-drop_lines d = count_line (codes "othersession") d.other_session
-    ++ (count_line (codes "unknown") d.unknown
-    ++ (count_line (codes "done") d.done
-    ++ count_line (codes "notbuilt") d.not_built))
+-- how many datagrams were no packet by a kind of fault
+abbrev pub fault_count : Faults → FaultKind → ℕ
+fault_count f kind.Short = f.short
+fault_count f kind.Version = f.version
+fault_count f kind.HeaderLength = f.header_length
+fault_count f kind.NoTsi = f.no_tsi
+fault_count f kind.Overrun = f.overrun
+fault_count f kind.ZeroLength = f.zero_length
+fault_count f kind.FtiLength = f.fti_length
+fault_count f kind.FluteVersion = f.flute_version
+fault_count f kind.CodePoint = f.code_point
+fault_count f kind.NoPayloadId = f.no_payload_id
+
+-- how many packets were dropped for a reason
+abbrev pub drop_count : Drops → Reason → ℕ
+drop_count d reason.Closed = d.closed
+drop_count d reason.OtherSession = d.other_session
+drop_count d reason.NoToi = d.no_toi
+drop_count d reason.NoBody = d.no_body
+drop_count d reason.Unknown = d.unknown
+drop_count d reason.Done = d.done
+drop_count d reason.NotBuilt = d.not_built
+
+-- the reasons, in the order in which they are printed
+abbrev pub reasons : List Reason
+reasons = reason.Closed ∷ reason.OtherSession ∷ reason.NoToi ∷ reason.NoBody ∷ reason.Unknown ∷ reason.Done ∷ reason.NotBuilt ∷ []
+
+-- one line for each kind of fault and each reason for which datagrams were dropped, in their order
+abbrev pub fault_lines : Faults → List FaultKind → List Event
+fault_lines f kinds = flat_map (λ k. count_line (kind_word k) (fault_count f k)) kinds
+
+abbrev pub drop_lines : Drops → List Reason → List Event
+drop_lines d reasons = flat_map (λ r. count_line (line.reason_word r) (drop_count d r)) reasons
 
 -- each life that wasn't handed out, with the number of its missing symbols
 abbrev pub incomplete_lines : List Life → List Event
@@ -98,7 +132,7 @@ abbrev pub end_events : Known → Receiver → Option Cause → List Event
 end_events known r None = []
 end_events known r (Some cause) =
     Line (line.end cause (end_moment known.words cause r) (length known.records))
-    ∷ drop_lines r.drops ++ incomplete_lines r.lives
+    ∷ fault_lines r.faults kinds ++ (drop_lines r.drops reasons ++ incomplete_lines r.lives)
 
 -- the events that a run has made by then
 abbrev pub events_of : Known → List Event

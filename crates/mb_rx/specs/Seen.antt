@@ -1,13 +1,17 @@
 -- What definitions see of the code's values.
 use Rattle.std.specs.Prelude.{◌≡◌, ℕ, zero, suc, ◌<◌, ◌==◌, true, false, List, [], ◌∷◌, length, map, slice_set, Some, None, Result, Ok, Err}
-use Rattle.mb_rx.specs.Datagram as datagram
+use Rattle.mb_alc.specs.Packet.{Body}
+use Rattle.mb_alc.specs.Seen.{body_seen}
+use Rattle.mb_rx.specs.Form as form
 use Rattle.mb_rx.specs.Receiver as receiver
-use Rattle.mb_rx.specs.declared.packet.Packet.{Packet}
+use Rattle.mb_rx.specs.declared.form.Form.{Form}
+use Rattle.mb_rx.specs.declared.form.Form.TheVariants.{Text, Symbols}
 use Rattle.mb_rx.specs.declared.drops.Reason.{Reason}
 use Rattle.mb_rx.specs.declared.lives.Life.{Life}
 
-abbrev pub packet_seen : Packet → datagram.Packet
-packet_seen p = record { tsi = p.tsi; toi = p.toi; instance = p.instance; payload_id = p.payload_id; payload = p.payload.now }
+abbrev pub form_seen : Form → form.Form
+form_seen (Text id text) = form.Text id text.now
+form_seen (Symbols toi body) = form.Symbols toi (body_seen body)
 
 -- a life between two datagrams, when nothing waits to be handed out
 abbrev pub life_seen : Life → receiver.Life
@@ -30,8 +34,8 @@ pub record IsHandedOut (old new : List Life) (toi place : ℕ) : Type 0 where
   pub now : new ≡ slice_set old place (record life { done = true })
 
 -- the first reason to drop bytes of an object, or none, and then its life is handed out
-abbrev pub HandsOut : List Life → List Life → ℕ → ℕ → List ℕ → Result ℕ Reason → Type 0
-HandsOut old new toi payload_id payload (Ok place) = IsHandedOut old new toi place
-    × (receiver.object_reason (receiver.life_of toi (lives_seen old)) payload_id payload ≡ None)
-HandsOut old new toi payload_id payload (Err reason) = (new ≡ old)
-    × (receiver.object_reason (receiver.life_of toi (lives_seen old)) payload_id payload ≡ Some reason)
+abbrev pub HandsOut : List Life → List Life → ℕ → Body → Result ℕ Reason → Type 0
+HandsOut old new toi body (Ok place) = IsHandedOut old new toi place
+    × (receiver.object_reason (receiver.life_of toi (lives_seen old)) body ≡ None)
+HandsOut old new toi body (Err reason) = (new ≡ old)
+    × (receiver.object_reason (receiver.life_of toi (lives_seen old)) body ≡ Some reason)

@@ -7,19 +7,19 @@ use Rattle.mb_geom.specs.Description.{Description}
 use Rattle.mb_fdt.specs.declared.fdt.Fdt.{Fdt}
 use Rattle.mb_fdt.specs.declared.fdt.FileFault.{FileFault}
 use Rattle.mb_fdt.specs.Reading.{instance_of}
-use Rattle.mb_rx.specs.Datagram.{Packet, packet_of}
-use Rattle.mb_rx.specs.declared.packet.InstanceHead.{InstanceHead}
+use Rattle.mb_alc.specs.Packet.{Packet, packet_of}
+use Rattle.mb_alc.specs.declared.packet.Fti.{Fti}
+use Rattle.mb_rx.specs.Form.{Form, Text, Symbols, form_of}
 
 -- a file and its description
 pub record SentFile : Type 0 where
   pub desc : Description
   pub bytes : List ℕ
 
--- the text of an FDT Instance, and what its EXT_FTI says beside the text's length
+-- the text of an FDT Instance, and its EXT_FTI
 pub record SentText : Type 0 where
   pub text : List ℕ
-  pub symbol : ℕ
-  pub max_block : ℕ
+  pub fti : Fti
 
 -- the entry, if it is a good one, is that of a sent file
 abbrev pub IsSentEntry : (ℕ → Option SentFile) → Option ℕ → Result Description FileFault → Type 0
@@ -41,24 +41,26 @@ pub record SentSet : Type 0 where
 abbrev pub symbol_of : ℕ → List ℕ → List ℕ
 symbol_of t bytes = take t bytes ++ replicate (t - length bytes) 0
 
--- the packet's text is the one that was sent under its ID, with its EXT_FTI
-pub record IsSentText (sent : SentSet) (head : InstanceHead) (text : List ℕ) : Type 0 where
+-- the text is the one that was sent under this ID, with its EXT_FTI
+pub record IsSentText (sent : SentSet) (id : ℕ) (fti : Option Fti) (text : List ℕ) : Type 0 where
   pub of : SentText
-  pub known : sent.texts head.id ≡ Some of
+  pub known : sent.texts id ≡ Some of
   pub same_text : text ≡ of.text
-  pub same_symbol : head.symbol ≡ of.symbol
-  pub same_max_block : head.max_block ≡ of.max_block
+  pub same_fti : fti ≡ Some of.fti
 
--- A packet of an instance has its text. A packet of a sent file's first symbol has that symbol; one of any
--- other TOI is free.
-abbrev pub IsHonestPacket : SentSet → Packet → Option InstanceHead → Type 0
-IsHonestPacket sent p (Some head) = IsSentText sent head p.payload
-IsHonestPacket sent p None = (file : SentFile) → sent.files p.toi ≡ Some file → p.payload_id ≡ 0
-    → symbol_of file.desc.symbol p.payload ≡ symbol_of file.desc.symbol file.bytes
+-- A text is the one that was sent. The first symbol of a sent file is that file's; symbols of any other TOI are free.
+abbrev pub IsHonestForm : SentSet → Option Fti → Form → Type 0
+IsHonestForm sent fti (Text id text) = IsSentText sent id fti text
+IsHonestForm sent fti (Symbols toi body) = (file : SentFile) → sent.files toi ≡ Some file → body.sbn ≡ 0 → body.esi ≡ 0
+    → symbol_of file.desc.symbol body.payload ≡ symbol_of file.desc.symbol file.bytes
+
+-- what a packet brings is honest; one that brings nothing is free
+abbrev pub IsHonestPacket : SentSet → Packet → Type 0
+IsHonestPacket sent p = (form : Form) → form_of p ≡ Some form → IsHonestForm sent p.exts.fti form
 
 -- each packet of the session is honest; what is no packet, or of another session, is free
 abbrev pub IsHonest : SentSet → ℕ → List Record → Type 0
-IsHonest sent tsi records = AllByRecursion (λ heard. (p : Packet) → packet_of heard.bytes ≡ Some p → p.tsi ≡ tsi → IsHonestPacket sent p p.instance) records
+IsHonest sent tsi records = AllByRecursion (λ heard. (p : Packet) → packet_of heard.bytes ≡ Ok p → p.lct.tsi ≡ tsi → IsHonestPacket sent p) records
 
 -- what was put is the sent file of its TOI, at the description's location
 pub record IsSentFile (sent : SentSet) (put : File) : Type 0 where

@@ -1,18 +1,21 @@
 ghost use Rattle.std.specs.Prelude.{◌≡◌, List, Some, [], ◌∷◌, length, IfOk};
 ghost use Rattle.std.specs.List.{list_all};
 ghost use Rattle.mb_base.specs.Broadcast.{Record};
+ghost use Rattle.mb_alc.specs.Words.{kinds};
 ghost use Rattle.mb_rx.specs.Receive.{known_of};
-ghost use Rattle.mb_rx.specs.Run.{count_line, drop_lines, end_events, end_moment, incomplete_lines};
+ghost use Rattle.mb_rx.specs.Run.{count_line, fault_lines, drop_lines, reasons, end_events, end_moment, incomplete_lines};
 ghost use Rattle.mb_rx.specs.Seen.{life_seen, lives_seen};
 ghost use Rattle.mb_rx.specs.Steps.{Prints};
 
 use crate::cause::Cause;
-use crate::drops::Drops;
+use crate::drops::{Drops, Reason};
 use crate::events::print;
+use crate::faults::Faults;
 use crate::lines::{dropped_line, end_line, incomplete_line};
 use crate::lives::Life;
 use crate::table::Table;
 use crate::words::RxWords;
+use mb_alc::FaultKind;
 use mb_base::{Sink, Status};
 use std::alloc::Global;
 
@@ -28,15 +31,36 @@ fn print_count<O: Sink>(alloc: Global, out: &mut O, word: &str, n: u64) -> Resul
     print(out, line.as_str())
 }
 
-/// Prints how many datagrams were dropped for each reason.
-fn print_drops<O: Sink>(alloc: Global, out: &mut O, drops: Drops) -> Result<(), Status>
-    ensures printed { Prints (O.written out.old) (O.faults out.old) (O.written out.new) (O.faults out.new) (drop_lines drops) result }
+/// Prints how many datagrams were no packet, by these kinds of faults.
+fn print_faults<O: Sink>(
+    alloc: Global,
+    out: &mut O,
+    faults: Faults,
+    kinds: &[FaultKind],
+) -> Result<(), Status>
+    ensures printed { Prints (O.written out.old) (O.faults out.old) (O.written out.new) (O.faults out.new) (fault_lines faults kinds.now) result }
     ensures same { O.made out.new ≡ O.made out.old }
 {
-    print_count(alloc, out, "othersession", drops.other_session)?;
-    print_count(alloc, out, "unknown", drops.unknown)?;
-    print_count(alloc, out, "done", drops.done)?;
-    print_count(alloc, out, "notbuilt", drops.not_built)
+    for kind in kinds {
+        print_count(alloc, out, kind.word(), faults.count(*kind))?;
+    }
+    Ok(())
+}
+
+/// Prints how many packets were dropped for these reasons.
+fn print_drops<O: Sink>(
+    alloc: Global,
+    out: &mut O,
+    drops: Drops,
+    reasons: &[Reason],
+) -> Result<(), Status>
+    ensures printed { Prints (O.written out.old) (O.faults out.old) (O.written out.new) (O.faults out.new) (drop_lines drops reasons.now) result }
+    ensures same { O.made out.new ≡ O.made out.old }
+{
+    for reason in reasons {
+        print_count(alloc, out, reason.word(), drops.count(*reason))?;
+    }
+    Ok(())
 }
 
 /// Prints a life, unless it was handed out.
@@ -48,7 +72,7 @@ fn print_life<O: Sink>(alloc: Global, out: &mut O, life: &Life) -> Result<(), St
     if life.done {
         return Ok(());
     }
-    let line = incomplete_line(alloc, life.toi, 1)?;
+    let line = incomplete_line(alloc, life.toi.number(), 1)?;
     print(out, line.as_str())
 }
 
@@ -95,6 +119,7 @@ pub fn print_end<O: Sink>(
     let moment = end_moment(words, cause, table);
     let line = end_line(alloc, cause, moment, u64::from(datagrams))?;
     print(out, line.as_str())?;
-    print_drops(alloc, out, table.drops())?;
+    print_faults(alloc, out, table.faults(), &FaultKind::ALL)?;
+    print_drops(alloc, out, table.drops(), &Reason::ALL)?;
     print_incomplete(alloc, out, table.lives())
 }

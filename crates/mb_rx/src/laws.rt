@@ -24,9 +24,9 @@ pub fn faultless_calls_complete()
 {}
 
 /// A law, which runs nothing: by what `receive` promises, good words, a trace that is broken where the session
-/// still listens, and no counted fault give status 4, or want of memory.
+/// is still open and listens, and no counted fault give status 4, or want of memory.
 pub fn broken_traces_are_found()
     ensures { (words : RxWords) (air_before air_after : Option Broadcast) (before after : Outputs) (faults_before faults_after : ℕ) (result : Status)
         → Receives (Some words) air_before air_after before after result → (result ≡ status.AirFault → Rose faults_before faults_after)
-        → IsCutTrace words.until air_before → IsUncounted faults_before faults_after before after → FindsBroken result }
+        → IsCutTrace words air_before → IsUncounted faults_before faults_after before after → FindsBroken result }
 {}

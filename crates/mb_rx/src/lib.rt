@@ -5,15 +5,19 @@ mod cause;
 mod drops;
 mod ends;
 mod events;
+mod faults;
+mod form;
 mod laws;
 mod lines;
 mod lives;
-mod packet;
+#[cfg(test)]
+mod packets_tests;
 #[cfg(test)]
 mod receive_tests;
 mod receiving;
 mod session;
 mod table;
+mod toi;
 mod words;
 #[cfg(test)]
 mod words_tests;

@@ -1,10 +1,13 @@
 ghost use Rattle.std.specs.Prelude.{◌≡◌, ℕ, ◌≤◌, ◌<◌, ◌^◌, ◌+◌, map, length, position, sum_by, ◌==◌, Option, Some, None, true, IfSome, IfOk, vec_len};
 ghost use Rattle.mb_geom.specs.Description.{plain, equations};
 ghost use Rattle.mb_rx.specs.Receiver.{object_reason, needed, is_full, entered, life_of, with_description, with_entry, with_instance};
+ghost use Rattle.mb_alc.specs.Seen.{body_seen};
 ghost use Rattle.mb_rx.specs.Seen.{life_seen, lives_seen, HandsOut};
 ghost use Rattle.mb_rx.specs.declared.lives.TheConstants.{LIVES_MAX};
 
 use crate::drops::Reason;
+use crate::toi::Toi;
+use mb_alc::Body;
 use mb_fdt::{FileEntries, FileEntry};
 use mb_geom::Desc;
 use std::alloc::AllocError;
@@ -70,7 +73,7 @@ impl Report {
 /// One TOI under one description.
 #[derive(Drop)]
 pub struct Life {
-    pub toi: u128,
+    pub toi: Toi,
     pub desc: Desc,
     /// The NTP second up to which it stands.
     pub expires: u64,
@@ -83,15 +86,17 @@ fn place_of(lives: &[Life], toi: u128) -> Option<usize>
     ensures place { result ≡ position (λ life. life.toi == toi) lives.now }
     ensures within { IfSome result (λ place. place < length lives.now) }
 {
-    lives.iter().position(|life| life.toi == toi)
+    let toi = Toi::new(toi);
+    lives.iter().position(|life| life.toi.is(&toi))
 }
 
 /// The first reason to drop bytes of the life's object: they are not its one symbol, or the life was handed
 /// out.
-fn reason_to_drop(life: &Life, payload_id: u32, payload: &[u8]) -> Option<Reason>
-    ensures { result ≡ object_reason (Some (life_seen life.now)) payload_id payload.now }
+fn reason_to_drop(life: &Life, body: &Body<'_>) -> Option<Reason>
+    ensures { result ≡ object_reason (Some (life_seen life.now)) (body_seen body.now) }
 {
-    if payload_id != 0 || payload.len() as u64 != life.desc.length() {
+    let is_first = body.sbn == 0 && body.esi == 0;
+    if !is_first || body.payload.len() as u64 != life.desc.length() {
         Some(Reason::NotBuilt)
     } else if life.done {
         Some(Reason::Done)
@@ -101,18 +106,13 @@ fn reason_to_drop(life: &Life, payload_id: u32, payload: &[u8]) -> Option<Reason
 }
 
 /// Hands out the object's life, whose file the payload is, and answers its place.
-pub fn hand_out(
-    lives: &mut [Life],
-    toi: u128,
-    payload_id: u32,
-    payload: &[u8],
-) -> Result<usize, Reason>
-    ensures { HandsOut lives.old lives.new toi payload_id payload.now result }
+pub fn hand_out(lives: &mut [Life], toi: u128, body: &Body<'_>) -> Result<usize, Reason>
+    ensures { HandsOut lives.old lives.new toi (body_seen body.now) result }
 {
     let Some(place) = place_of(lives, toi) else {
         return Err(Reason::Unknown);
     };
-    if let Some(reason) = reason_to_drop(&lives[place], payload_id, payload) {
+    if let Some(reason) = reason_to_drop(&lives[place], body) {
         return Err(reason);
     }
     lives[place].done = true;
@@ -173,7 +173,7 @@ fn add_file(
             return Ok(Entered::Full);
         }
         lives.push(Life {
-            toi,
+            toi: Toi::new(toi),
             desc,
             expires,
             done: false,

@@ -11,7 +11,7 @@ use std::thread::Threads;
 
 /// What is sent.
 #[derive(Clone, Copy)]
-enum Sent<'a> {
+pub(crate) enum Sent<'a> {
     /// The packet of the FDT Instance 1 whose text has these pieces.
     Text(&'a [&'a str]),
     /// The packet of an object, with its TSI, its TOI and its payload ID.
@@ -21,14 +21,14 @@ enum Sent<'a> {
 }
 
 /// A file with its TOI and its location.
-type File<'a> = (u128, &'a str, &'a [u8]);
+pub(crate) type File<'a> = (u128, &'a str, &'a [u8]);
 
 /// A session: what is sent and when, then what is printed, answered and stored.
-type Case<'a> = (&'a [(u64, Sent<'a>)], &'a [&'a str], u8, &'a [File<'a>]);
+pub(crate) type Case<'a> = (&'a [(u64, Sent<'a>)], &'a [&'a str], u8, &'a [File<'a>]);
 
 /// What a call of `receive` left.
 #[derive(Drop)]
-struct Left {
+pub(crate) struct Left {
     status: Status,
     out: MemSink,
     store: MemStore,
@@ -36,12 +36,12 @@ struct Left {
     next: AirEvent,
 }
 
-const NOW: u64 = 3_899_999_000;
+pub(crate) const NOW: u64 = 3_899_999_000;
 
-const EXPIRES: u64 = 3_900_000_000;
+pub(crate) const EXPIRES: u64 = 3_900_000_000;
 
 /// The head of a text, an entry, and the end: 282 bytes.
-const TEXT: [&str; 3] = [HEAD, ENTRY, END];
+pub(crate) const TEXT: [&str; 3] = [HEAD, ENTRY, END];
 
 const HEAD: &str =
     "<?xml version=\"1.0\" encoding=\"UTF-8\"?>\n<FDT-Instance Expires=\"3900000000\">\n";
@@ -59,26 +59,26 @@ const MOVED: &str =
 const ODD: &str =
     "<File Content-Location=\"!a %z~\u{e9}&#31;\" TOI=\"4294967295\" Content-Length=\"2\" Transfer-Length=\"2\" FEC-OTI-FEC-Encoding-ID=\"0\" FEC-OTI-Maximum-Source-Block-Length=\"64\" FEC-OTI-Encoding-Symbol-Length=\"1400\"/>\n";
 
-const WHOLE: Sent<'static> = Sent::Text(&TEXT);
+pub(crate) const WHOLE: Sent<'static> = Sent::Text(&TEXT);
 
-const BYTE: Sent<'static> = Sent::Bytes(b"\0");
+pub(crate) const BYTE: Sent<'static> = Sent::Bytes(b"\0");
 
-const FDT: (u64, Sent<'static>) = (NOW, WHOLE);
+pub(crate) const FDT: (u64, Sent<'static>) = (NOW, WHOLE);
 
-const HELLO: (u64, Sent<'static>) = (NOW, Sent::Symbol(1, 5, 0, b"hello"));
+pub(crate) const HELLO: (u64, Sent<'static>) = (NOW, Sent::Symbol(1, 5, 0, b"hello"));
 
-const JUNK: (u64, Sent<'static>) = (NOW, BYTE);
+pub(crate) const JUNK: (u64, Sent<'static>) = (NOW, BYTE);
 
-const FDT1: &str = "fdt 1 started 1 prolonged 0 conflicting 0 refused 0 norow 0 full 0";
+pub(crate) const FDT1: &str = "fdt 1 started 1 prolonged 0 conflicting 0 refused 0 norow 0 full 0";
 
-const STORED: &str = "stored 5 5 hello.txt";
+pub(crate) const STORED: &str = "stored 5 5 hello.txt";
 
-const FILE: File<'static> = (5, "hello.txt", b"hello");
+pub(crate) const FILE: File<'static> = (5, "hello.txt", b"hello");
 
-const TSI_1: [&str; 2] = ["--tsi", "1"];
+pub(crate) const TSI_1: [&str; 2] = ["--tsi", "1"];
 
 /// A record of 25 bytes that is cut after two.
-const CUT: [u8; 10] = [0, 0, 0xe8, 0x75, 0x43, 0x18, 0, 0x19, 0x10, 0xa0];
+pub(crate) const CUT: [u8; 10] = [0, 0, 0xe8, 0x75, 0x43, 0x18, 0, 0x19, 0x10, 0xa0];
 
 fn join(alloc: Global, pieces: &[&str], end: &str) -> Result<Vec<u8>, Memory> {
     let mut out = Vec::new(alloc);
@@ -124,7 +124,11 @@ fn datagram_of(alloc: Global, sent: Sent<'_>) -> Result<Vec<u8>, Memory> {
     }
 }
 
-fn trace_of(rt: &impl Abort, alloc: Global, sent: &[(u64, Sent<'_>)]) -> Result<Vec<u8>, Memory> {
+pub(crate) fn trace_of(
+    rt: &impl Abort,
+    alloc: Global,
+    sent: &[(u64, Sent<'_>)],
+) -> Result<Vec<u8>, Memory> {
     let mut trace = Vec::new(alloc);
     for (at, packet) in sent {
         let datagram = datagram_of(alloc, *packet)?;
@@ -135,7 +139,7 @@ fn trace_of(rt: &impl Abort, alloc: Global, sent: &[(u64, Sent<'_>)]) -> Result<
 }
 
 /// What a call leaves where the listed calls of the store, of the sink and of the trace's source fail.
-fn received<R: Threads + Sync + AllocGlobal>(
+pub(crate) fn received<R: Threads + Sync + AllocGlobal>(
     rt: &R,
     words: &[&str],
     trace: &[u8],
@@ -176,7 +180,7 @@ fn received<R: Threads + Sync + AllocGlobal>(
     })
 }
 
-fn assert_left<R: Abort + AllocGlobal>(
+pub(crate) fn assert_left<R: Abort + AllocGlobal>(
     rt: &R,
     left: &Left,
     printed: &[&str],
@@ -195,7 +199,7 @@ fn assert_left<R: Abort + AllocGlobal>(
     Ok(())
 }
 
-fn assert_cases<R: Threads + Sync + AllocGlobal + Abort>(
+pub(crate) fn assert_cases<R: Threads + Sync + AllocGlobal + Abort>(
     rt: &R,
     cases: &[Case<'_>],
 ) -> Result<(), Memory> {
@@ -227,7 +231,7 @@ const ENDINGS: [Case<'static>; 6] = [
             FDT1,
             STORED,
             "end ended 3899999000 datagrams 3",
-            "dropped notbuilt 1",
+            "dropped short 1",
         ],
         0,
         &[FILE],
@@ -235,16 +239,13 @@ const ENDINGS: [Case<'static>; 6] = [
     // The clock does not go back.
     (
         &[(7, BYTE), (9, BYTE), (8, BYTE)],
-        &["end ended 9 datagrams 3", "dropped notbuilt 3"],
+        &["end ended 9 datagrams 3", "dropped short 3"],
         0,
         &[],
     ),
     (
         &[(0xffff_ffff_ffff, BYTE)],
-        &[
-            "end ended 281474976710655 datagrams 1",
-            "dropped notbuilt 1",
-        ],
+        &["end ended 281474976710655 datagrams 1", "dropped short 1"],
         0,
         &[],
     ),
@@ -253,120 +254,6 @@ const ENDINGS: [Case<'static>; 6] = [
 #[test]
 fn each_file_is_stored_and_each_end_printed(rt: HostRuntime) -> Result<(), Fail> {
     assert_cases(&rt, &ENDINGS)?;
-    Ok(())
-}
-
-const DROPPED: [Case<'static>; 9] = [
-    (
-        &[FDT, HELLO, HELLO],
-        &[
-            FDT1,
-            STORED,
-            "end ended 3899999000 datagrams 3",
-            "dropped done 1",
-        ],
-        0,
-        &[FILE],
-    ),
-    (
-        &[HELLO, FDT, (NOW, Sent::Symbol(1, 6, 0, b"hello")), HELLO],
-        &[
-            FDT1,
-            STORED,
-            "end ended 3899999000 datagrams 4",
-            "dropped unknown 2",
-        ],
-        0,
-        &[FILE],
-    ),
-    (
-        &[FDT, HELLO, (NOW, Sent::Symbol(2, 5, 0, b"hello"))],
-        &[
-            FDT1,
-            STORED,
-            "end ended 3899999000 datagrams 3",
-            "dropped othersession 1",
-        ],
-        0,
-        &[FILE],
-    ),
-    (
-        &[
-            JUNK,
-            FDT,
-            HELLO,
-            HELLO,
-            (NOW, Sent::Symbol(1, 6, 0, b"hello")),
-            (NOW, Sent::Symbol(2, 5, 0, b"hello")),
-        ],
-        &[
-            FDT1,
-            STORED,
-            "end ended 3899999000 datagrams 6",
-            "dropped othersession 1",
-            "dropped unknown 1",
-            "dropped done 1",
-            "dropped notbuilt 1",
-        ],
-        0,
-        &[FILE],
-    ),
-    // Bytes that are no symbol of the object: another payload ID, and lengths next to its own.
-    (
-        &[
-            FDT,
-            (NOW, Sent::Symbol(1, 5, 1, b"hello")),
-            (NOW, Sent::Symbol(1, 5, 0, b"hell")),
-            (NOW, Sent::Symbol(1, 5, 0, b"hello!")),
-        ],
-        &[
-            FDT1,
-            "end ended 3899999000 datagrams 4",
-            "dropped notbuilt 3",
-            "incomplete 5 1",
-        ],
-        1,
-        &[],
-    ),
-    (
-        &[FDT, FDT, HELLO],
-        &[
-            FDT1,
-            STORED,
-            "end ended 3899999000 datagrams 3",
-            "dropped notbuilt 1",
-        ],
-        0,
-        &[FILE],
-    ),
-    // An instance stands in the second in which it expires, and no longer.
-    (
-        &[(EXPIRES, WHOLE), HELLO],
-        &[FDT1, STORED, "end ended 3900000000 datagrams 2"],
-        0,
-        &[FILE],
-    ),
-    (
-        &[(EXPIRES + 1, WHOLE), HELLO],
-        &[
-            "end ended 3900000001 datagrams 2",
-            "dropped unknown 1",
-            "dropped notbuilt 1",
-        ],
-        0,
-        &[],
-    ),
-    (
-        &[(EXPIRES + 1, BYTE), FDT],
-        &["end ended 3900000001 datagrams 2", "dropped notbuilt 2"],
-        0,
-        &[],
-    ),
-];
-
-#[test]
-fn each_dropped_datagram_has_its_reason(rt: HostRuntime) -> Result<(), Fail> {
-    assert_cases(&rt, &DROPPED)?;
     Ok(())
 }
 

@@ -37,9 +37,9 @@ fn store_file<S: Store, O: Sink>(
     ensures same_store { S.made store.new ≡ S.made store.old }
     ensures same_out { O.made out.new ≡ O.made out.old }
 {
-    let location = life.desc.location();
-    put(store, life.toi, location, payload)?;
-    let line = stored_line(alloc, life.toi, payload.len(), location)?;
+    let (toi, location) = (life.toi.number(), life.desc.location());
+    put(store, toi, location, payload)?;
+    let line = stored_line(alloc, toi, payload.len(), location)?;
     print(out, line.as_str())
 }
 
@@ -91,7 +91,8 @@ fn hear_datagram<S: Store, O: Sink>(
     make_events(alloc, table, heard, store, out)
 }
 
-/// Takes the next datagram from the air and hears it, or answers how the session ended.
+/// Takes the next datagram from the air and hears it, or answers how the session ended. Once the sender has
+/// closed the session, the air is not asked any more.
 fn hear_next<A: Air, S: Store, O: Sink>(
     alloc: Global,
     words: &RxWords,
@@ -111,6 +112,9 @@ fn hear_next<A: Air, S: Store, O: Sink>(
     ensures same_store { S.made store.new ≡ S.made store.old }
     ensures same_out { O.made out.new ≡ O.made out.old }
 {
+    if table.is_closed() {
+        return Ok(Some(Ending::EndsBy(Cause::Closed)));
+    }
     match air.next(words.until, buf) {
         AirEvent::Datagram { at, len } => {
             hear_datagram(alloc, words, table, at, &buf[..len], store, out)?;
@@ -154,8 +158,13 @@ pub fn listen<A: Air, S: Store, O: Sink>(
             return Ok(Listened { ending, datagrams });
         }
     }
+    let cause = if table.is_closed() {
+        Cause::Closed
+    } else {
+        Cause::Limit
+    };
     Ok(Listened {
-        ending: Ending::EndsBy(Cause::Limit),
+        ending: Ending::EndsBy(cause),
         datagrams: DATAGRAMS_MAX,
     })
 }

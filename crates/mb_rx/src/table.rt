@@ -1,8 +1,12 @@
-ghost use Rattle.std.specs.Prelude.{◌≡◌, ◌<◌, ◌≤◌, ◌==◌, [], Some, None, max, length, IfOk, slice_index_or};
+ghost use Rattle.std.specs.Prelude.{◌≡◌, ◌<◌, ◌≤◌, ◌==◌, [], Some, None, ◌||◌, max, length, option_map, IfOk, slice_index_or};
+ghost use Rattle.mb_alc.specs.Seen.{packet_seen};
+ghost use Rattle.mb_rx.specs.Receiver.{closes};
 
 use crate::drops::{Drops, Reason};
+use crate::faults::Faults;
+use crate::form::{Form, form_with};
 use crate::lives::{Life, Report, add_files, hand_out};
-use crate::packet::{InstanceHead, read_packet};
+use mb_alc::{Body, Packet, PacketFault, read_packet};
 use mb_base::Memory;
 use mb_fdt::read_written;
 use std::alloc::Global;
@@ -18,13 +22,22 @@ pub enum Heard<'a> {
     File { place: usize, payload: &'a [u8] },
 }
 
+/// Whether a packet closes the session.
+fn closes(tsi: u64, packet: &Packet<'_>) -> bool
+    ensures { result ≡ closes tsi (packet_seen packet.now) }
+{
+    packet.lct.tsi == tsi && packet.lct.close_session
+}
+
 /// The lives of a session, and what else the receiver knows. A contract sees the receiver of the
 /// definitions, between two datagrams.
 #[derive(Drop)]
 pub struct Table {
     clock: u64,
+    closed: bool,
     described: bool,
     lives: Vec<Life>,
+    faults: Faults,
     drops: Drops,
 }
 
@@ -35,15 +48,23 @@ impl Model for Table {
 
     ghost Value = { Receiver };
 
-    ghost view = { λ t. record { clock = t.clock; described = t.described; lives = lives_seen t.lives.items; drops = t.drops } };
+    ghost view = { λ t. record {
+      clock = t.clock;
+      closed = t.closed;
+      described = t.described;
+      lives = lives_seen t.lives.items;
+      faults = t.faults;
+      drops = t.drops;
+    } };
 
     ghost invariant = { λ t. vec_len t.lives ≤ 1024 };
 }
 
 impl Table {
-    ghost use Rattle.mb_rx.specs.Receiver.{fresh, drop_for, no_instance, hear_text, hear_symbol, hear_packet, object_reason, life_of};
+    ghost use Rattle.mb_rx.specs.Receiver.{fresh, refuse_for, drop_for, no_instance, hear_text, hear_symbols, hear_form, hear_in_session, hear_packet, object_reason, life_of};
+    ghost use Rattle.mb_alc.specs.Seen.{body_seen};
     ghost use Rattle.mb_rx.specs.Run.{after_step, after_record};
-    ghost use Rattle.mb_rx.specs.Seen.{life_seen, lives_seen};
+    ghost use Rattle.mb_rx.specs.Seen.{life_seen, lives_seen, form_seen};
     ghost use Rattle.mb_rx.specs.Heard.{IsHeard};
     ghost use Rattle.mb_rx.specs.declared.table.Heard.TheVariants.{Nothing};
     ghost use Rattle.mb_fdt.specs.Reading.{instance_of};
@@ -54,8 +75,10 @@ impl Table {
     {
         Table {
             clock: 0,
+            closed: false,
             described: false,
             lives: Vec::new(alloc),
+            faults: Faults::NONE,
             drops: Drops::NONE,
         }
     }
@@ -67,7 +90,21 @@ impl Table {
         self.clock
     }
 
-    /// How many datagrams were dropped for each reason.
+    /// Whether the sender closed the session.
+    pub fn is_closed(&self) -> bool
+        ensures { result ≡ self.now.closed }
+    {
+        self.closed
+    }
+
+    /// How many datagrams were no packet, by the kind of their fault.
+    pub fn faults(&self) -> Faults
+        ensures { result ≡ self.now.faults }
+    {
+        self.faults
+    }
+
+    /// How many packets were dropped for each reason.
     pub fn drops(&self) -> Drops
         ensures { result ≡ self.now.drops }
     {
@@ -81,6 +118,13 @@ impl Table {
         self.lives.as_slice()
     }
 
+    fn refused<'a>(&mut self, fault: PacketFault) -> Heard<'a>
+        ensures { IsHeard (after_step [] (no_instance (refuse_for fault self.old))) self.new result }
+    {
+        self.faults = self.faults.counted(fault.kind());
+        Heard::Nothing
+    }
+
     fn dropped<'a>(&mut self, reason: Reason) -> Heard<'a>
         ensures { IsHeard (after_step [] (no_instance (drop_for reason self.old))) self.new result }
     {
@@ -88,13 +132,14 @@ impl Table {
         Heard::Nothing
     }
 
-    fn hear_text<'a>(
-        &mut self,
-        alloc: Global,
-        head: InstanceHead,
-        text: &[u8],
-    ) -> Result<Heard<'a>, Memory>
-        ensures { IfOk result (IsHeard (after_step [] (hear_text self.old head (instance_of text.now))) self.new) }
+    fn close_if(&mut self, closing: bool)
+        ensures { self.new ≡ record self.old { closed = self.old.closed || closing } }
+    {
+        self.closed = self.closed || closing;
+    }
+
+    fn hear_text<'a>(&mut self, alloc: Global, id: u32, text: &[u8]) -> Result<Heard<'a>, Memory>
+        ensures { IfOk result (IsHeard (after_step [] (hear_text self.old id (instance_of text.now))) self.new) }
     {
         let Some(fdt) = read_written(alloc, text)? else {
             return Ok(self.dropped(Reason::NotBuilt));
@@ -104,23 +149,58 @@ impl Table {
         }
         let report = add_files(&mut self.lives, fdt.expires, fdt.files)?;
         self.described = true;
-        Ok(Heard::Instance {
-            id: head.id,
-            report,
-        })
+        Ok(Heard::Instance { id, report })
     }
 
-    fn hear_symbol<'a>(&mut self, toi: u128, payload_id: u32, payload: &'a [u8]) -> Heard<'a>
-        ensures { IsHeard (after_step [] (no_instance (hear_symbol self.old toi payload.now
-            (object_reason (life_of toi self.old.lives) payload_id payload.now)))) self.new result }
+    fn hear_symbols<'a>(&mut self, toi: u128, body: &Body<'a>) -> Heard<'a>
+        ensures { IsHeard (after_step [] (no_instance (hear_symbols self.old toi body.now.payload.now
+            (object_reason (life_of toi self.old.lives) (body_seen body.now))))) self.new result }
     {
-        match hand_out(&mut self.lives, toi, payload_id, payload) {
-            Ok(place) => Heard::File { place, payload },
+        match hand_out(&mut self.lives, toi, body) {
+            Ok(place) => Heard::File {
+                place,
+                payload: body.payload,
+            },
             Err(reason) => self.dropped(reason),
         }
     }
 
-    /// Hears a datagram of the moment `at`, in NTP seconds. It takes memory only for an FDT Instance.
+    fn hear_form<'a>(&mut self, alloc: Global, form: Option<Form<'a>>) -> Result<Heard<'a>, Memory>
+        ensures { IfOk result (IsHeard (after_step [] (hear_form self.old (option_map form_seen form.entry))) self.new) }
+    {
+        match form {
+            None => Ok(self.dropped(Reason::NotBuilt)),
+            Some(Form::Text { id, text }) => self.hear_text(alloc, id, text),
+            Some(Form::Symbols { toi, body }) => Ok(self.hear_symbols(toi, &body)),
+        }
+    }
+
+    /// Hears a packet, or drops it for the first reason that holds.
+    fn hear_packet<'a>(
+        &mut self,
+        alloc: Global,
+        tsi: u64,
+        packet: &Packet<'a>,
+    ) -> Result<Heard<'a>, Memory>
+        ensures { IfOk result (IsHeard (after_step [] (hear_packet tsi self.old (packet_seen packet.now))) self.new) }
+    {
+        if self.closed {
+            return Ok(self.dropped(Reason::Closed));
+        }
+        if packet.lct.tsi != tsi {
+            return Ok(self.dropped(Reason::OtherSession));
+        }
+        let Some(toi) = packet.lct.toi else {
+            return Ok(self.dropped(Reason::NoToi));
+        };
+        let Some(body) = packet.body else {
+            return Ok(self.dropped(Reason::NoBody));
+        };
+        self.hear_form(alloc, form_with(packet, toi, body))
+    }
+
+    /// Hears a datagram of the moment `at`, in NTP seconds. It takes memory only for an FDT Instance. A packet
+    /// of the session with Close Session closes it, also where it is dropped.
     pub fn hear<'a>(
         &mut self,
         alloc: Global,
@@ -131,15 +211,12 @@ impl Table {
         ensures { IfOk result (IsHeard (after_record tsi (record { receiver = self.old; events = [] }) (record { at = at; bytes = bytes.now })) self.new) }
     {
         self.clock = self.clock.max(at);
-        let Some(packet) = read_packet(bytes) else {
-            return Ok(self.dropped(Reason::NotBuilt));
+        let packet = match read_packet(bytes) {
+            Ok(packet) => packet,
+            Err(fault) => return Ok(self.refused(fault)),
         };
-        if u64::from(packet.tsi) != tsi {
-            return Ok(self.dropped(Reason::OtherSession));
-        }
-        match packet.instance {
-            Some(head) => self.hear_text(alloc, head, packet.payload),
-            None => Ok(self.hear_symbol(u128::from(packet.toi), packet.payload_id, packet.payload)),
-        }
+        let heard = self.hear_packet(alloc, tsi, &packet)?;
+        self.close_if(closes(tsi, &packet));
+        Ok(heard)
     }
 }

@@ -1,4 +1,4 @@
-use Rattle.std.proofs.Common.{◌≡◌, ℕ, List, set, get_or, sym, ap, ◌∙◌, max, position, ◌==◌, Option, Some, None}
+use Rattle.std.proofs.Common.{◌≡◌, ℕ, List, [], ◌∷◌, ◌++◌, set, get_or, sym, ap, ◌∙◌, max, position, ◌==◌, Option, Some, None}
 use Rattle.std.proofs.lemmas.List.{map-append, get_or_default}
 use Rattle.std.proofs.lemmas.List.Quantifiers.{position-Some}
 use Rattle.mb_geom.specs.Description.{same_description}
@@ -29,7 +29,8 @@ returns-in_default-clause-added c =
     life_of-none c.args.toi lives (at_place c.args.toi _ lives _ None c.deref.ensures.value c.place_of.ensures.place c.in_default.is) in
     with_description-started c.args.expires c.args.toi c.args.desc (lives_seen lives) none
     (ap (λ (xs : List Life). receiver.is_full (lives_seen xs) c.args.desc) (sym c.deref-in_default.ensures.value) ∙ (sym c.is_full.ensures ∙ c.if-is_full.false))
-    ∙ ap (λ xs. (xs, Started)) (sym (ap lives_seen c.in_ok-push.ensures.items ∙ map-append life_seen lives _))
+    ∙ ap (λ xs. (xs, Started)) (sym (ap lives_seen c.in_ok-push.ensures.items ∙ (map-append life_seen lives _
+    ∙ ap (λ toi. lives_seen lives ++ receiver.start_life c.args.expires toi c.args.desc ∷ []) c.new.ensures)))
 
 pub returns-then-not-is_same-clause-added : goal.returns-then-not-is_same-clause-added
 returns-then-not-is_same-clause-added c =

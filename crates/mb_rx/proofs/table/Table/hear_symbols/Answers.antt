@@ -1,0 +1,26 @@
+use Rattle.std.proofs.Common.{◌≡◌, List, [], ◌++◌, take, drop, length, sym, ap, subst, arith}
+use Rattle.std.proofs.lemmas.Grind.{common_steps}
+use Rattle.mb_rx.specs.Receiver as receiver
+use Rattle.mb_rx.specs.Run.{after_step}
+use Rattle.mb_rx.specs.Heard.{IsFileOf}
+use Rattle.mb_rx.specs.Seen.{lives_seen}
+use Rattle.mb_rx.specs.declared.lives.Life.{Life}
+use Rattle.mb_alc.specs.Seen.{body_seen}
+use Rattle.mb_rx.proofs.HandOut.{receiver_of, hear_symbols-made}
+use Rattle.mb_rx.proofs.table.Table.hear_symbols.Goals as goal
+
+pub returns-in-Ok : goal.returns-in-Ok
+returns-in-Ok c =
+    let handed = c.in-Ok.ensures in
+    let inside = c.self.inside in
+    let new = c.hand_out.new.lives in
+    let seen = receiver_of inside.clock inside.closed inside.described inside.lives.items inside.faults inside.drops in
+    let body = body_seen c.args.body.now in
+    let whole : take inside.lives.len (new ++ drop (length new) inside.lives.items) ≡ new =
+    grind (arith, common_steps, c.hand_out.auto.lives, c.deref_mut.ensures.len) in
+    let made = hear_symbols-made seen c.deref_mut.result.now new c.args.toi c.in-Ok.place body
+    (ap lives_seen (sym c.deref_mut.ensures.value)) handed.0 handed.1 in
+    let heard : receiver.Receiver → List Life → Type 0 = λ r xs. IsFileOf (after_step [] (receiver.no_instance (receiver.hear_symbols r c.args.toi body.payload
+    (receiver.object_reason (receiver.life_of c.args.toi r.lives) body)))) (record seen { lives = lives_seen xs }) c.in-Ok.place body.payload in
+    let placed = subst (heard seen) (sym whole) made in
+    subst (λ (r : receiver.Receiver). heard r (take inside.lives.len (new ++ drop (length new) inside.lives.items))) c.self.view_is placed
