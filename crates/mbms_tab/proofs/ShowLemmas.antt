@@ -1,0 +1,383 @@
+-- How the parts of showing a trace join.
+use Rattle.std.proofs.Common.{◌≡◌, ℕ, ◌<◌, ◌≤◌, ◌+◌, ◌-◌, Bool, cond, true, false, List, [], ◌∷◌, ◌++◌, take, drop, length, map, get_or, Option, Some, None, Result, Ok, Err, refl, sym, ap, ap₂, subst, ◌∙◌, string_bytes, Global, codes, append_assoc, append-nil, length-append, arith}
+use Rattle.std.specs.Prelude.{IsTrue, String, nat_lt, option_map}
+use Rattle.std.specs.Bool.{Decides}
+use Rattle.std.proofs.lemmas.List.{take-append-drop, take_at, drop_at, take_all, length-take}
+use Rattle.std.proofs.lemmas.Bool.{lt-ltb, le-ltb}
+use Rattle.std.proofs.lemmas.Grind.{flat_map-append}
+use Rattle.std.proofs.Math.Seq.{take-add}
+use Rattle.mb_base.specs.Outside.{Grows, Becomes}
+use Rattle.mb_base.specs.Broadcast.{Record, Broadcast, Hears}
+use Rattle.mb_base.specs.Trace.{trace_broadcast}
+use Rattle.mb_base.specs.declared.air.AirEvent.TheVariants.{Datagram}
+use Rattle.mb_base.specs.declared.outcome.Status.{Status}
+use Rattle.mb_base.specs.declared.outcome.Status.TheVariants as status
+use Rattle.mb_base.proofs.Content.{Grows-nil, Grows-trans}
+use Rattle.mbms_tab.specs.Lines as line
+use Rattle.mbms_tab.specs.Lines.{show_text, record_line}
+use Rattle.mbms_tab.specs.Show.{show_words, break_text, trace_text, PrintsPart, PrintsFirst}
+use Rattle.mbms_tab.specs.Steps.{PrintsUnless, Takes, IsOver, IsNext, IsShownAhead, ShowsAhead, ShowsOrStops, IsGathered, IsReadSoFar, IsReadWhole, IsRead, Finishes}
+use Rattle.mbms_tab.specs.declared.showing.TheConstants.{RECORDS_MAX}
+use Rattle.mbms_tab.specs.declared.showing.Turn.{Turn}
+use Rattle.mbms_tab.specs.declared.showing.Turn.TheVariants.{More, Over}
+
+-- ---- the words
+
+pub shown_words : (words : List (String Global)) (word : String Global) (shown : List ℕ) (same : Bool)
+    → 1 ≤ length words → length words < 2 → word ≡ get_or words 0 word → shown ≡ string_bytes word → Decides same (shown ≡ codes "show")
+    → (IsTrue same → map string_bytes words ≡ show_words) × (map string_bytes words ≡ show_words → IsTrue same)
+shown_words [] word shown same some one at is test = absurd (omega arith)
+shown_words (w ∷ []) word shown same some one at is test =
+    let bytes : shown ≡ string_bytes w = is ∙ ap string_bytes at in
+    ((λ yes. ap (λ (b : List ℕ). b ∷ []) (sym bytes ∙ test.0 yes)), (λ e. let first : string_bytes w ≡ codes "show" = cc e in test.1 (bytes ∙ first)))
+shown_words (w ∷ v ∷ ws) word shown same some one at is test = absurd (omega arith)
+
+-- ---- texts
+
+pub show_text-append : (xs ys : List Record) → show_text (xs ++ ys) ≡ show_text xs ++ show_text ys
+unfolding show_text
+show_text-append xs ys = flat_map-append record_line xs ys
+
+pub show_text-nil : show_text [] ≡ []
+unfolding show_text
+show_text-nil = refl
+
+pub show_text-one : (heard : Record) → show_text (heard ∷ []) ≡ record_line heard
+unfolding show_text
+show_text-one heard = append-nil (record_line heard)
+
+-- the first bytes of a text
+pub PrintsPart-take : (text bytes : List ℕ) (n : ℕ) (before after : Option (List ℕ)) → bytes ≡ text → Grows before after (take n bytes)
+    → PrintsPart text before after
+PrintsPart-take text bytes n before after is grown =
+    record { printed = take n bytes; rest = drop n bytes; split = rw (sym is) (sym (take-append-drop n bytes)); grown = grown }
+
+-- a beginning of a text that stands between others
+pub PrintsPart-behind : (front text more whole : List ℕ) (before mid after : Option (List ℕ)) → whole ≡ front ++ (text ++ more)
+    → Grows before mid front → PrintsPart text mid after → PrintsPart whole before after
+PrintsPart-behind front text more whole before mid after is grown part = record {
+  printed = front ++ part.printed;
+  rest = part.rest ++ more;
+  split = is ∙ (ap (λ (t : List ℕ). front ++ (t ++ more)) part.split
+      ∙ (ap (λ (t : List ℕ). front ++ t) (append_assoc part.printed part.rest more) ∙ sym (append_assoc front part.printed (part.rest ++ more))));
+  grown = Grows-trans before mid after front part.printed grown part.grown;
+}
+
+-- ---- what is taken
+
+pub Takes-none : (ahead : Option Broadcast) → Becomes ahead ahead (Takes [])
+Takes-none None = tt
+Takes-none (Some ahead) = refl
+
+pub Takes-trans : (a b c : Option Broadcast) (xs ys : List Record) → Becomes a b (Takes xs) → Becomes b c (Takes ys) → Becomes a c (Takes (xs ++ ys))
+Takes-trans None b c xs ys p q = tt
+Takes-trans (Some a) None c xs ys p q = absurd p
+Takes-trans (Some a) (Some b) None xs ys p q = absurd q
+Takes-trans (Some a) (Some b) (Some c) xs ys p q =
+    p ∙ (ap (λ (x : Broadcast). record x { records = xs ++ x.records }) q
+    ∙ ap (λ (rs : List Record). record c { records = rs }) (sym (append_assoc xs ys c.records)))
+
+pub Takes-datagram : (until at len : ℕ) (buf : List ℕ) (a b : Option Broadcast) → Becomes a b (Hears until (Datagram at len) buf)
+    → Becomes a b (Takes (record { at = at; bytes = take len buf } ∷ []))
+Takes-datagram until at len buf None b p = tt
+Takes-datagram until at len buf (Some a) None p = absurd p
+Takes-datagram until at len buf (Some a) (Some b) p = p
+
+-- ---- what is shown, by what was taken
+
+-- the records that were taken are the first of those that are shown
+pub record IsFrontOfShown (ahead : Option Broadcast) (records : List Record) : Type 0 where
+  pub whole : List Record
+  pub broken : Option ℕ
+  pub within : length whole ≤ RECORDS_MAX
+  pub of : IsShownAhead ahead whole broken
+  pub later : List Record
+  pub split : whole ≡ records ++ later
+
+take_front : (xs ys : List Record) (most : ℕ) → length xs ≤ most → take most (xs ++ ys) ≡ xs ++ take (most - length xs) ys
+take_front xs ys most few =
+    let sum : most ≡ length xs + (most - length xs) = omega arith in
+    ap (λ (n : ℕ). take n (xs ++ ys)) sum ∙ (take-add (length xs) (most - length xs) (xs ++ ys)
+    ∙ ap₂ (λ (front rest : List Record). front ++ take (most - length xs) rest) (take_at xs ys (length xs) refl) (drop_at xs ys (length xs) refl))
+
+pub front_of_shown : (a b : Option Broadcast) (records : List Record) → Becomes a b (Takes records) → length records ≤ RECORDS_MAX → IsFrontOfShown a records
+front_of_shown None b records taken few =
+    record { whole = records; broken = None; within = few; of = tt; later = []; split = sym (append-nil records) }
+front_of_shown (Some a) None records taken few = absurd taken
+front_of_shown (Some a) (Some b) records taken few = record {
+  whole = take RECORDS_MAX a.records;
+  broken = cond (nat_lt (length a.records) RECORDS_MAX) a.broken None;
+  within = omega (arith, length-take RECORDS_MAX a.records);
+  of = (refl, refl);
+  later = take (RECORDS_MAX - length records) b.records;
+  split = ap (λ (x : Broadcast). take RECORDS_MAX x.records) taken ∙ take_front records b.records RECORDS_MAX few;
+}
+
+-- all were taken, for none is left
+pub shown_at_end : (a b c : Option Broadcast) (records : List Record) (broken : Option ℕ) → Becomes a b (Takes records) → length records < RECORDS_MAX
+    → Becomes b c (λ old _. IsOver broken old) → IsShownAhead a records broken
+shown_at_end None b c records broken taken few over = tt
+shown_at_end (Some a) None c records broken taken few over = absurd taken
+shown_at_end (Some a) (Some b) None records broken taken few over = absurd over
+shown_at_end (Some a) (Some b) (Some c) records broken taken few over =
+    let all : a.records ≡ records = ap (λ (x : Broadcast). x.records) taken ∙ (ap (λ (rs : List Record). records ++ rs) over.none_left ∙ append-nil records) in
+    let len : length a.records < RECORDS_MAX = omega (arith, ap length all) in
+    let below : nat_lt (length a.records) RECORDS_MAX ≡ true = lt-ltb _ _ len in
+    let end : a.broken ≡ broken = ap (λ (x : Broadcast). x.broken) taken ∙ over.end in
+    (sym (take_all RECORDS_MAX a.records (omega (arith, len)) ∙ all), sym (ap (λ (b : Bool). cond b a.broken None) below ∙ end))
+
+-- as many were taken as are shown at most
+pub shown_at_limit : (a b : Option Broadcast) (records : List Record) → Becomes a b (Takes records) → length records ≡ RECORDS_MAX → IsShownAhead a records None
+shown_at_limit None b records taken full = tt
+shown_at_limit (Some a) None records taken full = absurd taken
+shown_at_limit (Some a) (Some b) records taken full =
+    let all : a.records ≡ records ++ b.records = ap (λ (x : Broadcast). x.records) taken in
+    let len : RECORDS_MAX ≤ length a.records = omega (arith, ap length all, length-append records b.records, full) in
+    let past : nat_lt (length a.records) RECORDS_MAX ≡ false = le-ltb _ _ len in
+    (sym (ap (take RECORDS_MAX) all ∙ take_at records b.records RECORDS_MAX full), sym (ap (λ (b : Bool). cond b a.broken None) past))
+
+-- ---- gathered lines
+
+pub gathered-none : (lines : List ℕ) (out : Option (List ℕ)) → lines ≡ [] → IsGathered [] lines out out
+gathered-none lines out none = record {
+  printed = [];
+  waiting = [];
+  split = refl;
+  text = none ∙ sym show_text-nil;
+  grown = subst (λ (t : List ℕ). Grows out out t) (sym show_text-nil) (Grows-nil out);
+}
+
+pub gathered-next : (records : List Record) (heard : Record) (lines new : List ℕ) (before after : Option (List ℕ)) → IsGathered records lines before after
+    → new ≡ lines ++ record_line heard → IsGathered (records ++ heard ∷ []) new before after
+gathered-next records heard lines new before after s is = record {
+  printed = s.printed;
+  waiting = s.waiting ++ heard ∷ [];
+  split = ap (λ (rs : List Record). rs ++ heard ∷ []) s.split ∙ append_assoc s.printed s.waiting (heard ∷ []);
+  text = is ∙ (ap₂ (λ (xs ys : List ℕ). xs ++ ys) s.text (sym (show_text-one heard)) ∙ sym (show_text-append s.waiting (heard ∷ [])));
+  grown = s.grown;
+}
+
+gathered-printed : (records : List Record) (lines kept : List ℕ) (before mid after : Option (List ℕ)) → IsGathered records lines before mid
+    → kept ≡ [] → Grows mid after lines → IsGathered records kept before after
+gathered-printed records lines kept before mid after s none grown = record {
+  printed = records;
+  waiting = [];
+  split = sym (append-nil records);
+  text = none ∙ sym show_text-nil;
+  grown = subst (λ (t : List ℕ). Grows before after t) (sym (ap show_text s.split ∙ show_text-append s.printed s.waiting))
+      (Grows-trans before mid after (show_text s.printed) (show_text s.waiting) s.grown (subst (λ (t : List ℕ). Grows mid after t) s.text grown));
+}
+
+pub gathered-kept : (holds : Bool) (x : Unit {0}) (records : List Record) (lines kept : List ℕ) (before mid after : Option (List ℕ)) → IsGathered records lines before mid
+    → PrintsUnless holds lines kept mid after (Ok x) → IsGathered records kept before after
+gathered-kept true x records lines kept before mid after s p =
+    subst (λ (l : List ℕ). IsGathered records l before after) (sym p.0) (subst (λ (o : Option (List ℕ)). IsGathered records lines before o) (sym p.1) s)
+gathered-kept false x records lines kept before mid after s p = gathered-printed records lines kept before mid after s p.0 p.1
+
+-- ---- what stops
+
+-- the text of all records, by those that were printed, those that wait, and the others
+whole_text : (printed waiting later records whole : List Record) (end : List ℕ) → records ≡ printed ++ waiting → whole ≡ records ++ later
+    → show_text whole ++ end ≡ show_text printed ++ (show_text waiting ++ (show_text later ++ end))
+whole_text printed waiting later records whole end s w =
+    let parts : show_text whole ≡ show_text printed ++ (show_text waiting ++ show_text later) =
+    ap show_text (w ∙ (ap (λ (rs : List Record). rs ++ later) s ∙ append_assoc printed waiting later))
+    ∙ (show_text-append printed (waiting ++ later) ∙ ap (λ (t : List ℕ). show_text printed ++ t) (show_text-append waiting later)) in
+    ap (λ (t : List ℕ). t ++ end) parts ∙ (append_assoc (show_text printed) (show_text waiting ++ show_text later) end
+    ∙ ap (λ (t : List ℕ). show_text printed ++ t) (append_assoc (show_text waiting) (show_text later) end))
+
+-- lines were wanting, or the source failed, while these were gathered
+pub stopped : (ahead : Option Broadcast) (records : List Record) (lines : List ℕ) (before after : Option (List ℕ)) (f : IsFrontOfShown ahead records)
+    → IsGathered records lines before after → PrintsFirst f.whole before after
+stopped ahead records lines before after f s = record {
+  printed = s.printed;
+  later = s.waiting ++ f.later;
+  split = f.split ∙ (ap (λ (rs : List Record). rs ++ f.later) s.split ∙ append_assoc s.printed s.waiting f.later);
+  grown = s.grown;
+}
+
+-- the sink failed in the lines that were gathered
+pub unprinted : (ahead : Option Broadcast) (records : List Record) (lines : List ℕ) (before mid after : Option (List ℕ)) → IsFrontOfShown ahead records
+    → IsGathered records lines before mid → PrintsPart lines mid after → ShowsAhead ahead before after status.OutFault
+unprinted ahead records lines before mid after f s part = record {
+  records = f.whole;
+  broken = f.broken;
+  within = f.within;
+  of = f.of;
+  printed = PrintsPart-behind (show_text s.printed) (show_text s.waiting) (show_text f.later ++ break_text f.broken) (trace_text f.whole f.broken)
+      before mid after (whole_text s.printed s.waiting f.later records f.whole (break_text f.broken) s.split f.split) s.grown
+      (subst (λ (t : List ℕ). PrintsPart t mid after) s.text part);
+}
+
+-- ---- record after record
+
+pub so_far-none : (ahead : Option Broadcast) (lines : List ℕ) (out : Option (List ℕ)) → lines ≡ [] → IsReadSoFar 0 ahead ahead lines out out
+so_far-none ahead lines out none =
+    record { records = []; taken = Takes-none ahead; length_is = refl; gathered = gathered-none lines out none }
+
+-- the records so far are few enough to be shown
+so_far-front : (n : ℕ) (a b : Option Broadcast) (lines : List ℕ) (before after : Option (List ℕ)) (s : IsReadSoFar n a b lines before after)
+    → n ≤ RECORDS_MAX → IsFrontOfShown a s.records
+so_far-front n a b lines before after s few = front_of_shown a b s.records s.taken (omega (arith, s.length_is))
+
+-- the gathered lines were printed, or wait on
+so_far-kept : (holds : Bool) (x : Unit {0}) (n : ℕ) (a b : Option Broadcast) (lines kept : List ℕ) (before mid after : Option (List ℕ)) → IsReadSoFar n a b lines before mid
+    → PrintsUnless holds lines kept mid after (Ok x) → IsReadSoFar n a b kept before after
+so_far-kept holds x n a b lines kept before mid after s p =
+    record { records = s.records; taken = s.taken; length_is = s.length_is; gathered = gathered-kept holds x s.records lines kept before mid after s.gathered p }
+
+pub so_far-next : (holds : Bool) (x : Unit {0}) (n : ℕ) (a b c : Option Broadcast) (lines kept new : List ℕ) (before mid after : Option (List ℕ)) (turn : Turn)
+    → IsReadSoFar n a b lines before mid → PrintsUnless holds lines kept mid after (Ok x) → turn ≡ More
+    → IsNext b c kept new (Ok turn) → IsReadSoFar (n + 1) a c new before after
+so_far-next holds x n a b c lines kept new before mid after turn so_far printed on next =
+    let s = so_far-kept holds x n a b lines kept before mid after so_far printed in
+    let t : IsNext b c kept new (Ok More) = subst (λ (t : Turn). IsNext b c kept new (Ok t)) on next in
+    record {
+      records = s.records ++ t.0 ∷ [];
+      taken = Takes-trans a b c s.records (t.0 ∷ []) s.taken t.1;
+      length_is = length-append s.records (t.0 ∷ []) ∙ omega (arith, s.length_is);
+      gathered = gathered-next s.records t.0 kept new before after s.gathered t.2;
+    }
+
+pub read-at_end : (holds : Bool) (x : Unit {0}) (n : ℕ) (a b c : Option Broadcast) (lines kept new : List ℕ) (before mid after : Option (List ℕ)) (turn : Turn) (broken : Option ℕ)
+    → IsReadSoFar n a b lines before mid → n < RECORDS_MAX → PrintsUnless holds lines kept mid after (Ok x) → turn ≡ Over broken
+    → IsNext b c kept new (Ok turn) → IsReadWhole a broken new before after
+read-at_end holds x n a b c lines kept new before mid after turn broken so_far few printed over next =
+    let s = so_far-kept holds x n a b lines kept before mid after so_far printed in
+    let end : IsNext b c kept new (Ok (Over broken)) = subst (λ (t : Turn). IsNext b c kept new (Ok t)) over next in
+    record {
+      records = s.records;
+      within = omega (arith, s.length_is);
+      of = shown_at_end a b c s.records broken s.taken (omega (arith, s.length_is)) end.0;
+      gathered = subst (λ (l : List ℕ). IsGathered s.records l before after) (sym end.1) s.gathered;
+    }
+
+pub read-at_limit : (n : ℕ) (a b : Option Broadcast) (lines : List ℕ) (before after : Option (List ℕ)) → IsReadSoFar n a b lines before after
+    → n ≡ RECORDS_MAX → IsReadWhole a None lines before after
+read-at_limit n a b lines before after s full = record {
+  records = s.records;
+  within = omega (arith, s.length_is, full);
+  of = shown_at_limit a b s.records s.taken (s.length_is ∙ full);
+  gathered = s.gathered;
+}
+
+-- a result that hands on a status
+IsRead-err : (ahead : Option Broadcast) (lines : List ℕ) (before after : Option (List ℕ)) (reason answer : Status) (result : Result (Option ℕ) Status)
+    → result ≡ Err answer → answer ≡ reason → ShowsAhead ahead before after reason → IsRead ahead lines before after result
+IsRead-err ahead lines before after reason answer result is same s =
+    subst (λ (r : Result (Option ℕ) Status). IsRead ahead lines before after r) (sym (is ∙ ap Err same)) s
+
+-- the sink failed
+unprinted_by : (holds : Bool) (ahead : Option Broadcast) (records : List Record) (lines kept : List ℕ) (before mid after : Option (List ℕ)) (reason : Status)
+    → IsFrontOfShown ahead records → IsGathered records lines before mid → PrintsUnless holds lines kept mid after (Err reason) → ShowsAhead ahead before after reason
+unprinted_by false ahead records lines kept before mid after status.OutFault f s p = unprinted ahead records lines before mid after f s p
+unprinted_by false ahead records lines kept before mid after _ f s p = absurd p
+unprinted_by true ahead records lines kept before mid after reason f s p = absurd p
+
+pub read-unprinted : (holds : Bool) (n : ℕ) (a b : Option Broadcast) (lines kept : List ℕ) (before mid after : Option (List ℕ)) (reason answer : Status) (result : Result (Option ℕ) Status)
+    → IsReadSoFar n a b lines before mid → n < RECORDS_MAX → PrintsUnless holds lines kept mid after (Err reason)
+    → result ≡ Err answer → answer ≡ reason → IsRead a kept before after result
+read-unprinted holds n a b lines kept before mid after reason answer result s few p is same =
+    IsRead-err a kept before after reason answer result is same
+    (unprinted_by holds a s.records lines kept before mid after reason (so_far-front n a b lines before mid s (omega arith)) s.gathered p)
+
+-- the source failed, or memory was wanting
+stopped_by : (ahead b c : Option Broadcast) (records : List Record) (lines new : List ℕ) (before after : Option (List ℕ)) (reason : Status)
+    → IsFrontOfShown ahead records → IsGathered records lines before after → IsNext b c lines new (Err reason) → ShowsAhead ahead before after reason
+stopped_by ahead b c records lines new before after status.ReadFault f s next =
+    record { records = f.whole; broken = f.broken; within = f.within; of = f.of; printed = stopped ahead records lines before after f s }
+stopped_by ahead b c records lines new before after status.Memory f s next =
+    record { records = f.whole; broken = f.broken; within = f.within; of = f.of; printed = stopped ahead records lines before after f s }
+stopped_by ahead b c records lines new before after _ f s next = absurd next
+
+pub read-stopped : (holds : Bool) (x : Unit {0}) (n : ℕ) (a b c : Option Broadcast) (lines kept new : List ℕ) (before mid after : Option (List ℕ)) (reason answer : Status) (result : Result (Option ℕ) Status)
+    → IsReadSoFar n a b lines before mid → n < RECORDS_MAX → PrintsUnless holds lines kept mid after (Ok x) → IsNext b c kept new (Err reason)
+    → result ≡ Err answer → answer ≡ reason → IsRead a new before after result
+read-stopped holds x n a b c lines kept new before mid after reason answer result so_far few printed next is same =
+    let s = so_far-kept holds x n a b lines kept before mid after so_far printed in
+    IsRead-err a new before after reason answer result is same
+    (stopped_by a b c s.records kept new before after reason (so_far-front n a b kept before after s (omega arith)) s.gathered next)
+
+-- ---- a whole trace
+
+-- want of memory before anything was read
+pub no_room : (ahead : Option Broadcast) (out : Option (List ℕ)) (answer : Status) (result : Result (Option ℕ) Status) → result ≡ Err answer → answer ≡ status.Memory
+    → ShowsOrStops ahead out out result
+no_room ahead out answer result is same =
+    let f = front_of_shown ahead ahead [] (Takes-none ahead) (omega arith) in
+    subst (λ (r : Result (Option ℕ) Status). ShowsOrStops ahead out out r) (sym (is ∙ ap Err same)) (record {
+      records = f.whole;
+      broken = f.broken;
+      within = f.within;
+      of = f.of;
+      printed = stopped ahead [] [] out out f (gathered-none [] out refl);
+    })
+
+printed_whole : (records : List Record) (lines end : List ℕ) (before mid after : Option (List ℕ)) → IsGathered records lines before mid
+    → Grows mid after (lines ++ end) → Grows before after (show_text records ++ end)
+printed_whole records lines end before mid after s grown =
+    let text : show_text records ++ end ≡ show_text s.printed ++ (lines ++ end) =
+    ap (λ (rs : List Record). show_text rs ++ end) s.split ∙ (ap (λ (t : List ℕ). t ++ end) (show_text-append s.printed s.waiting)
+    ∙ (append_assoc (show_text s.printed) (show_text s.waiting) end ∙ ap (λ (t : List ℕ). show_text s.printed ++ (t ++ end)) (sym s.text))) in
+    subst (λ (t : List ℕ). Grows before after t) (sym text) (Grows-trans before mid after (show_text s.printed) (lines ++ end) s.grown grown)
+
+-- all lines were printed
+pub shown_whole : (x : Unit {0}) (ahead : Option Broadcast) (broken : Option ℕ) (lines : List ℕ) (before mid after : Option (List ℕ)) → IsReadWhole ahead broken lines before mid
+    → Finishes broken lines mid after (Ok x) → ShowsOrStops ahead before after (Ok broken)
+shown_whole x ahead None lines before mid after s p = record {
+  records = s.records;
+  broken = None;
+  within = s.within;
+  of = s.of;
+  printed = (refl, subst (λ (t : List ℕ). Grows before after t) (append-nil (show_text s.records)) (printed_whole s.records lines [] before mid after s.gathered p));
+}
+shown_whole x ahead (Some place) lines before mid after s p = record {
+  records = s.records;
+  broken = Some place;
+  within = s.within;
+  of = s.of;
+  printed = (place, refl, printed_whole s.records lines (line.broken place) before mid after s.gathered p);
+}
+
+-- the last lines could not be made or printed
+unended_by : (ahead : Option Broadcast) (broken : Option ℕ) (lines : List ℕ) (before mid after : Option (List ℕ)) (reason : Status) → IsReadWhole ahead broken lines before mid
+    → Finishes broken lines mid after (Err reason) → ShowsAhead ahead before after reason
+unended_by ahead broken lines before mid after status.OutFault s p =
+    let whole : trace_text s.records broken ≡ show_text s.gathered.printed ++ ((lines ++ break_text broken) ++ []) =
+    ap (λ (rs : List Record). show_text rs ++ break_text broken) s.gathered.split
+    ∙ (ap (λ (t : List ℕ). t ++ break_text broken) (show_text-append s.gathered.printed s.gathered.waiting)
+    ∙ (append_assoc (show_text s.gathered.printed) (show_text s.gathered.waiting) (break_text broken)
+    ∙ ap (λ (t : List ℕ). show_text s.gathered.printed ++ t)
+    (ap (λ (t : List ℕ). t ++ break_text broken) (sym s.gathered.text) ∙ sym (append-nil (lines ++ break_text broken))))) in
+    record {
+      records = s.records;
+      broken = broken;
+      within = s.within;
+      of = s.of;
+      printed = PrintsPart-behind (show_text s.gathered.printed) (lines ++ break_text broken) [] (trace_text s.records broken) before mid after whole s.gathered.grown p;
+    }
+unended_by ahead broken lines before mid after status.Memory s p = record {
+  records = s.records;
+  broken = broken;
+  within = s.within;
+  of = s.of;
+  printed = subst (λ (o : Option (List ℕ)). PrintsFirst s.records before o) (sym p)
+      (record { printed = s.gathered.printed; later = s.gathered.waiting; split = s.gathered.split; grown = s.gathered.grown });
+}
+unended_by ahead broken lines before mid after _ s p = absurd p
+
+pub unended : (ahead : Option Broadcast) (broken : Option ℕ) (lines : List ℕ) (before mid after : Option (List ℕ)) (reason answer : Status) (result : Result (Option ℕ) Status)
+    → IsReadWhole ahead broken lines before mid → Finishes broken lines mid after (Err reason) → result ≡ Err answer → answer ≡ reason → ShowsOrStops ahead before after result
+unended ahead broken lines before mid after reason answer result s p is same =
+    subst (λ (r : Result (Option ℕ) Status). ShowsOrStops ahead before after r) (sym (is ∙ ap Err same)) (unended_by ahead broken lines before mid after reason s p)
+
+-- the trace could not be read to its end
+pub unread : (ahead : Option Broadcast) (lines : List ℕ) (before after : Option (List ℕ)) (reason answer : Status) (result : Result (Option ℕ) Status)
+    → IsRead ahead lines before after (Err reason) → result ≡ Err answer → answer ≡ reason → ShowsOrStops ahead before after result
+unread ahead lines before after reason answer result s is same =
+    subst (λ (r : Result (Option ℕ) Status). ShowsOrStops ahead before after r) (sym (is ∙ ap Err same)) s
+
+-- what is ahead of a reader that has read nothing is the trace
+pub of_trace : (ahead : Option Broadcast) (left before after : Option (List ℕ)) (result : Result (Option ℕ) Status) → ahead ≡ option_map (trace_broadcast 0 None) left
+    → ShowsOrStops ahead before after result → ShowsOrStops (option_map (trace_broadcast 0 None) left) before after result
+of_trace ahead left before after result is s = subst (λ (a : Option Broadcast). ShowsOrStops a before after result) is s

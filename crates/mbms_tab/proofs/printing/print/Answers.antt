@@ -1,0 +1,6 @@
+use Rattle.mbms_tab.proofs.ShowLemmas.{PrintsPart-take}
+use Rattle.mbms_tab.proofs.printing.print.Goals as goal
+
+pub returns-in-Err-clause-printed : goal.returns-in-Err-clause-printed
+returns-in-Err-clause-printed g c =
+    PrintsPart-take c.args.text.now c.as_bytes.result.now c.in-Err.ensures.part.0 _ _ c.as_bytes.ensures.value c.in-Err.ensures.part.2

@@ -1,0 +1,101 @@
+-- What the parts of showing a trace do.
+use Rattle.std.specs.Prelude.{◌≡◌, ℕ, ◌≤◌, Bool, true, false, nat_lt, if◌then◌else◌, List, [], ◌∷◌, ◌++◌, length, take, Option, Some, None, Result, Ok, Err, OnOk, ⊤}
+use Rattle.mb_base.specs.Outside.{Grows, Becomes, Rose}
+use Rattle.mb_base.specs.Broadcast.{Record, Broadcast}
+use Rattle.mb_base.specs.declared.outcome.Status.{Status}
+use Rattle.mb_base.specs.declared.outcome.Status.TheVariants as status
+use Rattle.mbms_tab.specs.Lines as line
+use Rattle.mbms_tab.specs.Lines.{show_text}
+use Rattle.mbms_tab.specs.Show.{break_text, PrintsPart, Leaves}
+use Rattle.mbms_tab.specs.declared.showing.TheConstants.{RECORDS_MAX}
+use Rattle.mbms_tab.specs.declared.showing.Turn.{Turn}
+use Rattle.mbms_tab.specs.declared.showing.Turn.TheVariants.{More, Over}
+
+-- A status comes only where the count of faults rose, which no part lowers.
+pub record CountsFaults {A : Type 0} (fault : Status) (before now : ℕ) (result : Result A Status) : Type 0 where
+  pub later : before ≤ now
+  pub kept : OnOk result (now ≡ before)
+  pub failed : result ≡ Err fault → Rose before now
+
+-- the text was printed, or the sink failed in it
+abbrev pub Prints : List ℕ → Option (List ℕ) → Option (List ℕ) → Result (Unit {0}) Status → Type 0
+Prints text before after (Ok x) = Grows before after text
+Prints text before after (Err status.OutFault) = PrintsPart text before after
+Prints text before after (Err _) = ⊥
+
+-- where a record is held, the gathered lines wait on; else they were printed and none is kept, or the sink failed in them
+abbrev pub PrintsUnless : Bool → List ℕ → List ℕ → Option (List ℕ) → Option (List ℕ) → Result (Unit {0}) Status → Type 0
+PrintsUnless true lines kept before after (Ok x) = (kept ≡ lines) × (after ≡ before)
+PrintsUnless true lines kept before after (Err reason) = ⊥
+PrintsUnless false lines kept before after (Ok x) = (kept ≡ []) × Grows before after lines
+PrintsUnless false lines kept before after (Err reason) = Prints lines before after (Err reason)
+
+-- these records were taken, and nothing else changed
+abbrev pub Takes : List Record → Broadcast → Broadcast → Type 0
+Takes records old new = old ≡ record new { records = records ++ new.records }
+
+-- no record is left, and the trace is broken there, or it is not
+pub record IsOver (broken : Option ℕ) (ahead : Broadcast) : Type 0 where
+  pub none_left : ahead.records ≡ []
+  pub end : ahead.broken ≡ broken
+
+-- The next record was taken and its line gathered, or none is left; or the source failed, or memory was wanting.
+abbrev pub IsNext : Option Broadcast → Option Broadcast → List ℕ → List ℕ → Result Turn Status → Type 0
+IsNext before after lines new (Ok More) = (heard : Record) × Becomes before after (Takes (heard ∷ [])) × (new ≡ lines ++ line.record_line heard)
+IsNext before after lines new (Ok (Over broken)) = Becomes before after (λ old _. IsOver broken old) × (new ≡ lines)
+IsNext before after lines new (Err status.ReadFault) = ⊤
+IsNext before after lines new (Err status.Memory) = ⊤
+IsNext before after lines new (Err _) = ⊥
+
+-- where what is ahead is told, these are the records that are shown of it and the place where it is broken
+abbrev pub IsShownAhead : Option Broadcast → List Record → Option ℕ → Type 0
+IsShownAhead None records broken = ⊤
+IsShownAhead (Some ahead) records broken = (records ≡ take RECORDS_MAX ahead.records)
+    × (broken ≡ (if nat_lt (length ahead.records) RECORDS_MAX then ahead.broken else None))
+
+-- of what was ahead this was shown, when a status came
+pub record ShowsAhead (ahead : Option Broadcast) (before after : Option (List ℕ)) (result : Status) : Type 0 where
+  pub records : List Record
+  pub broken : Option ℕ
+  pub within : length records ≤ RECORDS_MAX
+  pub of : IsShownAhead ahead records broken
+  pub printed : Leaves result records broken before after
+
+-- the lines of these records were printed, and those of the ones behind them wait
+pub record IsGathered (records : List Record) (lines : List ℕ) (before after : Option (List ℕ)) : Type 0 where
+  pub printed : List Record
+  pub waiting : List Record
+  pub split : records ≡ printed ++ waiting
+  pub text : lines ≡ show_text waiting
+  pub grown : Grows before after (show_text printed)
+
+-- so many records were taken of what was ahead, and their lines were printed or wait
+pub record IsReadSoFar (number : ℕ) (ahead now : Option Broadcast) (lines : List ℕ) (before after : Option (List ℕ)) : Type 0 where
+  pub records : List Record
+  pub taken : Becomes ahead now (Takes records)
+  pub length_is : length records ≡ number
+  pub gathered : IsGathered records lines before after
+
+-- all records that are shown were taken, and their lines were printed or wait
+pub record IsReadWhole (ahead : Option Broadcast) (broken : Option ℕ) (lines : List ℕ) (before after : Option (List ℕ)) : Type 0 where
+  pub records : List Record
+  pub within : length records ≤ RECORDS_MAX
+  pub of : IsShownAhead ahead records broken
+  pub gathered : IsGathered records lines before after
+
+abbrev pub IsRead : Option Broadcast → List ℕ → Option (List ℕ) → Option (List ℕ) → Result (Option ℕ) Status → Type 0
+IsRead ahead lines before after (Ok broken) = IsReadWhole ahead broken lines before after
+IsRead ahead lines before after (Err reason) = ShowsAhead ahead before after reason
+
+-- the last lines of a trace were printed, and behind them where it is broken; or memory was wanting, or the sink failed
+abbrev pub Finishes : Option ℕ → List ℕ → Option (List ℕ) → Option (List ℕ) → Result (Unit {0}) Status → Type 0
+Finishes broken lines before after (Ok x) = Grows before after (lines ++ break_text broken)
+Finishes broken lines before after (Err status.OutFault) = PrintsPart (lines ++ break_text broken) before after
+Finishes broken lines before after (Err status.Memory) = after ≡ before
+Finishes broken lines before after (Err _) = ⊥
+
+-- the trace was shown to its end, where it is broken or not, or a status came
+abbrev pub ShowsOrStops : Option Broadcast → Option (List ℕ) → Option (List ℕ) → Result (Option ℕ) Status → Type 0
+ShowsOrStops ahead before after (Ok None) = ShowsAhead ahead before after status.Done
+ShowsOrStops ahead before after (Ok (Some place)) = ShowsAhead ahead before after status.TraceBroken
+ShowsOrStops ahead before after (Err reason) = ShowsAhead ahead before after reason
