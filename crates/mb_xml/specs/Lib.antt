@@ -1,0 +1,4 @@
+pub mod Name
+pub mod Reference
+pub mod Value
+pub mod Seen
