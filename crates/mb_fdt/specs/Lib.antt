@@ -1,3 +1,12 @@
+pub mod Known
+pub mod Element
+pub mod Text
+pub mod Entry
+pub mod Says
+pub mod Faults
+pub mod Reader
+pub mod WrittenForm
+pub mod Laws
 pub mod Reading
 pub mod Seen
 pub mod Written

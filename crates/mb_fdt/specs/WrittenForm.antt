@@ -1,0 +1,80 @@
+-- The written form of an instance: one text for each (element and attribute names of RFC 3926 section 3.4.2).
+use Rattle.std.specs.Prelude.{◌≡◌, ℕ, ◌^◌, ◌<◌, ◌≤◌, List, [], ◌∷◌, ◌++◌, length, flat_map, Option, Some, None, IfSome, Result, Ok, Err, codes, decimal}
+use Rattle.std.specs.List.{AllByRecursion}
+use Rattle.base64.specs.Engines.{standard}
+use Rattle.base64.specs.GeneralPurpose.{encode_of}
+use Rattle.mb_base.specs.Number.{AreBytes, be_bytes}
+use Rattle.mb_geom.specs.Description.{Description, IsGood}
+use Rattle.mb_geom.specs.declared.desc.Scheme.{Scheme}
+use Rattle.mb_geom.specs.declared.desc.Scheme.TheVariants.{NoCode, Raptor}
+use Rattle.mb_fdt.specs.declared.fdt.Fdt.{Fdt}
+use Rattle.mb_fdt.specs.declared.fdt.FileFault.{FileFault}
+use Rattle.mb_fdt.specs.Written.{attribute, escaped, complete_attribute}
+
+-- MD5, where it is given
+abbrev pub md5_attribute : Option (List ℕ) → List ℕ
+md5_attribute None = []
+md5_attribute (Some md5) = attribute (codes "Content-MD5") (encode_of standard md5)
+
+-- Z, N and Al in four bytes (RFC 5053 section 3.2.3)
+abbrev pub info_bytes : ℕ → ℕ → ℕ → List ℕ
+info_bytes z n al = be_bytes 2 z ++ n ∷ al ∷ []
+
+-- the FEC-OTI attributes of symbols of t bytes: each scheme has parameters of its own
+abbrev pub oti_attributes : ℕ → Scheme → List ℕ
+oti_attributes t (NoCode b) = attribute (codes "FEC-OTI-FEC-Encoding-ID") (decimal 0)
+    ++ attribute (codes "FEC-OTI-Maximum-Source-Block-Length") (decimal b)
+    ++ attribute (codes "FEC-OTI-Encoding-Symbol-Length") (decimal t)
+oti_attributes t (Raptor z n al) = attribute (codes "FEC-OTI-FEC-Encoding-ID") (decimal 1)
+    ++ attribute (codes "FEC-OTI-Encoding-Symbol-Length") (decimal t)
+    ++ attribute (codes "FEC-OTI-Scheme-Specific-Info") (encode_of standard (info_bytes z n al))
+
+-- a File element, and a line feed
+abbrev pub file_element : ℕ → Description → List ℕ
+file_element toi d = codes "<File"
+    ++ attribute (codes "Content-Location") (escaped d.location)
+    ++ attribute (codes "TOI") (decimal toi)
+    ++ attribute (codes "Content-Length") (decimal d.length)
+    ++ attribute (codes "Transfer-Length") (decimal d.length)
+    ++ md5_attribute d.md5
+    ++ oti_attributes d.symbol d.scheme
+    ++ codes "/>\n"
+
+abbrev pub entry_element : Option ℕ → Result Description FileFault → List ℕ
+entry_element (Some toi) (Ok d) = file_element toi d
+entry_element (Some toi) (Err fault) = []
+entry_element None entry = []
+
+-- the whole text
+unfoldable pub written_form : Fdt → List ℕ
+written_form f = codes "<?xml version=\"1.0\" encoding=\"UTF-8\"?>\n<FDT-Instance"
+    ++ attribute (codes "Expires") (decimal f.expires)
+    ++ complete_attribute f.complete
+    ++ codes ">\n"
+    ++ flat_map (λ e. entry_element e.toi e.entry) f.files
+    ++ codes "</FDT-Instance>\n"
+
+-- the parameters fit their fields
+abbrev pub SchemeFits : Scheme → Type 0
+SchemeFits (NoCode b) = b < 2 ^ 32
+SchemeFits (Raptor z n al) = (z < 2 ^ 16) × (n < 2 ^ 8) × (al < 2 ^ 8)
+
+-- a good description under a TOI that a file may have
+pub record IsWritableFile (toi : ℕ) (d : Description) : Type 0 where
+  pub toi_above : 1 ≤ toi
+  pub toi_below : toi < 2 ^ 112
+  pub location : length d.location ≤ 2048
+  pub good : IsGood d
+  pub scheme : SchemeFits d.scheme
+  pub md5 : IfSome d.md5 (λ md5. (length md5 ≡ 16) × AreBytes md5)
+
+abbrev pub IsWritableEntry : Option ℕ → Result Description FileFault → Type 0
+IsWritableEntry (Some toi) (Ok d) = IsWritableFile toi d
+IsWritableEntry (Some toi) (Err fault) = ⊥
+IsWritableEntry None entry = ⊥
+
+-- what has a written form
+pub record IsWritable (f : Fdt) : Type 0 where
+  pub expires : f.expires < 2 ^ 32
+  pub count : length f.files ≤ 1024
+  pub each : AllByRecursion (λ e. IsWritableEntry e.toi e.entry) f.files
