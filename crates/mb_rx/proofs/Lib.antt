@@ -1,3 +1,4 @@
+pub mod ApartLemmas
 pub mod Making
 pub mod LivesLemmas
 pub mod HandOut

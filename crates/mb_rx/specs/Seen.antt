@@ -1,5 +1,6 @@
 -- What definitions see of the code's values.
-use Rattle.std.specs.Prelude.{◌≡◌, ℕ, zero, suc, ◌<◌, ◌==◌, true, false, List, [], ◌∷◌, length, map, slice_set, Some, None, Result, Ok, Err}
+use Rattle.std.specs.Prelude.{◌≡◌, ℕ, zero, suc, ◌<◌, ◌==◌, true, false, List, [], ◌∷◌, length, map, slice_set, Some, None, Result, Ok, Err, ⊤}
+use Rattle.std.specs.List.{AllByRecursion}
 use Rattle.mb_alc.specs.Packet.{Body}
 use Rattle.mb_alc.specs.Seen.{body_seen}
 use Rattle.mb_rx.specs.Form as form
@@ -39,3 +40,8 @@ HandsOut old new toi body (Ok place) = IsHandedOut old new toi place
     × (receiver.object_reason (receiver.life_of toi (lives_seen old)) body ≡ None)
 HandsOut old new toi body (Err reason) = (new ≡ old)
     × (receiver.object_reason (receiver.life_of toi (lives_seen old)) body ≡ Some reason)
+
+-- no two lives are of one object
+abbrev pub AreApart : List Life → Type 0
+AreApart [] = ⊤
+AreApart (life ∷ lives) = AllByRecursion (λ other. (life.toi == other.toi) ≡ false) lives × AreApart lives

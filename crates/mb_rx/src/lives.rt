@@ -2,7 +2,7 @@ ghost use Rattle.std.specs.Prelude.{◌≡◌, ℕ, ◌≤◌, ◌<◌, ◌^◌,
 ghost use Rattle.mb_geom.specs.Description.{plain, equations};
 ghost use Rattle.mb_rx.specs.Receiver.{object_reason, needed, is_full, entered, life_of, with_description, with_entry, with_instance};
 ghost use Rattle.mb_alc.specs.Seen.{body_seen};
-ghost use Rattle.mb_rx.specs.Seen.{life_seen, lives_seen, HandsOut};
+ghost use Rattle.mb_rx.specs.Seen.{life_seen, lives_seen, HandsOut, AreApart};
 ghost use Rattle.mb_rx.specs.declared.lives.TheConstants.{LIVES_MAX};
 
 use crate::drops::Reason;
@@ -90,6 +90,18 @@ fn place_of(lives: &[Life], toi: u128) -> Option<usize>
     lives.iter().position(|life| life.toi.is(&toi))
 }
 
+/// The place of the object's life, which is looked for at a guess first.
+fn place_near(lives: &[Life], guess: usize, toi: u128) -> Option<usize>
+    requires { AreApart lives.now }
+    ensures place { result ≡ position (λ life. life.toi == toi) lives.now }
+    ensures within { IfSome result (λ place. place < length lives.now) }
+{
+    if guess < lives.len() && lives[guess].toi.is(&Toi::new(toi)) {
+        return Some(guess);
+    }
+    place_of(lives, toi)
+}
+
 /// The first reason to drop bytes of the life's object: they are not its one symbol, or the life was handed
 /// out.
 fn reason_to_drop(life: &Life, body: &Body<'_>) -> Option<Reason>
@@ -105,13 +117,21 @@ fn reason_to_drop(life: &Life, body: &Body<'_>) -> Option<Reason>
     }
 }
 
-/// Hands out the object's life, whose file the payload is, and answers its place.
-pub fn hand_out(lives: &mut [Life], toi: u128, body: &Body<'_>) -> Result<usize, Reason>
+/// Hands out the object's life, whose file the payload is, and answers its place. The life is looked for at `next`
+/// first, which becomes the place behind it: packets often come in the order of the lives.
+pub fn hand_out(
+    lives: &mut [Life],
+    next: &mut usize,
+    toi: u128,
+    body: &Body<'_>,
+) -> Result<usize, Reason>
+    requires { AreApart lives.old }
     ensures { HandsOut lives.old lives.new toi (body_seen body.now) result }
 {
-    let Some(place) = place_of(lives, toi) else {
+    let Some(place) = place_near(lives, *next, toi) else {
         return Err(Reason::Unknown);
     };
+    *next = place + 1;
     if let Some(reason) = reason_to_drop(&lives[place], body) {
         return Err(reason);
     }
@@ -164,8 +184,10 @@ fn add_file(
     toi: u128,
     desc: Desc,
 ) -> Result<Entered, AllocError>
-    requires { vec_len lives.old ≤ LIVES_MAX }
+    requires few { vec_len lives.old ≤ LIVES_MAX }
+    requires apart { AreApart lives.old.items }
     ensures few { vec_len lives.new ≤ LIVES_MAX }
+    ensures apart { AreApart lives.new.items }
     ensures added { IfOk result (λ e. with_description expires toi desc (life_of toi (lives_seen lives.old.items)) (lives_seen lives.old.items) ≡ (lives_seen lives.new.items, e)) }
 {
     let Some(place) = place_of(lives, toi) else {
@@ -191,8 +213,10 @@ fn add_file(
 /// Acts on an entry of an instance that stands up to `expires`.
 #[tactic(auto, unfolding(crate::specs::Receiver::with_entry))]
 fn add_entry(lives: &mut Vec<Life>, expires: u64, entry: FileEntry) -> Result<Entered, AllocError>
-    requires { vec_len lives.old ≤ LIVES_MAX }
+    requires few { vec_len lives.old ≤ LIVES_MAX }
+    requires apart { AreApart lives.old.items }
     ensures few { vec_len lives.new ≤ LIVES_MAX }
+    ensures apart { AreApart lives.new.items }
     ensures added { IfOk result (λ e. with_entry expires (lives_seen lives.old.items) entry.toi entry.entry ≡ (lives_seen lives.new.items, e)) }
 {
     match (entry.toi, entry.entry) {
@@ -207,8 +231,10 @@ pub fn add_files(
     expires: u64,
     files: FileEntries,
 ) -> Result<Report, AllocError>
-    requires { vec_len lives.old ≤ LIVES_MAX }
+    requires few { vec_len lives.old ≤ LIVES_MAX }
+    requires apart { AreApart lives.old.items }
     ensures few { vec_len lives.new ≤ LIVES_MAX }
+    ensures apart { AreApart lives.new.items }
     ensures added { IfOk result (λ report. with_instance expires files (lives_seen lives.old.items)
         ≡ record { lives = lives_seen lives.new.items; report = report }) }
 {

@@ -37,6 +37,8 @@ pub struct Table {
     closed: bool,
     described: bool,
     lives: Vec<Life>,
+    /// The place where the next packet's life is looked for first.
+    next: usize,
     faults: Faults,
     drops: Drops,
 }
@@ -44,7 +46,7 @@ pub struct Table {
 impl Model for Table {
     ghost use Rattle.std.specs.Prelude.{◌≤◌, vec_len};
     ghost use Rattle.mb_rx.specs.Receiver.{Receiver};
-    ghost use Rattle.mb_rx.specs.Seen.{lives_seen};
+    ghost use Rattle.mb_rx.specs.Seen.{lives_seen, AreApart};
 
     ghost Value = { Receiver };
 
@@ -57,7 +59,7 @@ impl Model for Table {
       drops = t.drops;
     } };
 
-    ghost invariant = { λ t. vec_len t.lives ≤ 1024 };
+    ghost invariant = { λ t. (vec_len t.lives ≤ 1024) × AreApart t.lives.items };
 }
 
 impl Table {
@@ -78,6 +80,7 @@ impl Table {
             closed: false,
             described: false,
             lives: Vec::new(alloc),
+            next: 0,
             faults: Faults::NONE,
             drops: Drops::NONE,
         }
@@ -156,7 +159,7 @@ impl Table {
         ensures { IsHeard (after_step [] (no_instance (hear_symbols self.old toi body.now.payload.now
             (object_reason (life_of toi self.old.lives) (body_seen body.now))))) self.new result }
     {
-        match hand_out(&mut self.lives, toi, body) {
+        match hand_out(&mut self.lives, &mut self.next, toi, body) {
             Ok(place) => Heard::File {
                 place,
                 payload: body.payload,

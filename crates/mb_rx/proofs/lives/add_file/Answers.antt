@@ -1,11 +1,12 @@
-use Rattle.std.proofs.Common.{◌≡◌, ℕ, List, [], ◌∷◌, ◌++◌, set, get_or, sym, ap, ◌∙◌, max, position, ◌==◌, Option, Some, None}
+use Rattle.std.proofs.Common.{◌≡◌, ℕ, List, [], ◌∷◌, ◌++◌, set, get_or, sym, ap, subst, ◌∙◌, max, position, ◌==◌, Option, Some, None}
 use Rattle.std.proofs.lemmas.List.{map-append, get_or_default}
 use Rattle.std.proofs.lemmas.List.Quantifiers.{position-Some}
 use Rattle.mb_geom.specs.Description.{same_description}
 use Rattle.mb_rx.specs.Receiver as receiver
-use Rattle.mb_rx.specs.Seen.{life_seen, lives_seen}
+use Rattle.mb_rx.specs.Seen.{life_seen, lives_seen, AreApart}
 use Rattle.mb_rx.specs.declared.lives.Life.{Life}
 use Rattle.mb_rx.specs.declared.lives.Entered.TheVariants.{Started, Prolonged}
+use Rattle.mb_rx.proofs.ApartLemmas.{apart-push, apart-set}
 use Rattle.mb_rx.proofs.LivesLemmas.{IsLifeAt-position, life_of-at, life_of-none, with_description-full, with_description-started, with_description-conflicting, with_description-prolonged, prolonged-at}
 use Rattle.mb_rx.proofs.lives.add_file.Goals as goal
 
@@ -55,3 +56,16 @@ returns-clause-added c =
     ∙ ap (λ xs. (xs, Prolonged)) (prolonged-at c.args.toi c.args.expires lives c.in-Some.place _ at
     ∙ (ap (λ (l : Life). lives_seen (set lives c.in-Some.place (record l { expires = max l.expires c.args.expires }))) now
     ∙ ap (λ (n : ℕ). lives_seen (set lives c.in-Some.place (record c.index_mut-life.result.now { expires = n }))) (sym c.max-life.ensures)))
+
+pub returns-in_default-clause-apart : goal.returns-in_default-clause-apart
+returns-in_default-clause-apart c =
+    let lives = c.args.lives.now.items in
+    subst (λ (xs : List Life). AreApart xs) (sym c.in_ok-push.ensures.items)
+    (apart-push c.args.toi lives _ c.requires.apart (at_place c.args.toi _ lives _ None c.deref.ensures.value c.place_of.ensures.place c.in_default.is) c.new.ensures)
+
+pub returns-clause-apart : goal.returns-clause-apart
+returns-clause-apart c =
+    let lives = c.args.lives.now.items in
+    let now = c.index_mut-life.result.now in
+    apart-set lives c.in-Some.place (record now { expires = c.max-life.result }) now c.requires.apart
+    (ap (λ (l : Life). l.toi) c.index_mut-life.ensures.value)

@@ -1,9 +1,11 @@
-use Rattle.std.proofs.Common.{◌≡◌, List, [], ◌++◌, take, drop, length, sym, ap, subst, arith}
+use Rattle.std.proofs.Common.{◌≡◌, ℕ, List, true, [], ◌++◌, take, drop, length, sym, ap, subst, arith}
 use Rattle.std.proofs.lemmas.Grind.{common_steps}
 use Rattle.mb_rx.specs.Receiver as receiver
 use Rattle.mb_rx.specs.Run.{after_step}
 use Rattle.mb_rx.specs.Heard.{IsFileOf}
-use Rattle.mb_rx.specs.Seen.{lives_seen}
+use Rattle.mb_rx.specs.Seen.{lives_seen, AreApart, IsHandedOut}
+use Rattle.mb_alc.specs.Packet.{Body}
+use Rattle.mb_rx.proofs.ApartLemmas.{apart-set, toi-at}
 use Rattle.mb_rx.specs.declared.lives.Life.{Life}
 use Rattle.mb_alc.specs.Seen.{body_seen}
 use Rattle.mb_rx.proofs.HandOut.{receiver_of, hear_symbols-made}
@@ -24,3 +26,21 @@ returns-in-Ok c =
     (receiver.object_reason (receiver.life_of c.args.toi r.lives) body)))) (record seen { lives = lives_seen xs }) c.in-Ok.place body.payload in
     let placed = subst (heard seen) (sym whole) made in
     subst (λ (r : receiver.Receiver). heard r (take inside.lives.len (new ++ drop (length new) inside.lives.items))) c.self.view_is placed
+
+-- handing out leaves the lives apart
+handed : (old new : List Life) (toi : ℕ) (body : Body) (place : ℕ) → AreApart old → IsHandedOut old new toi place → AreApart new
+handed old new toi body place apart h =
+    subst (λ (xs : List Life). AreApart xs) (sym h.now)
+    (apart-set old place (record h.life { done = true }) h.life apart (toi-at toi old place h.life h.life h.at))
+
+pub invariant_of-self : goal.invariant_of-self
+invariant_of-self c =
+    let inside = c.self.inside in
+    let new = c.hand_out.new.lives in
+    let apart : AreApart c.deref_mut.result.now = subst (λ (xs : List Life). AreApart xs) (sym c.deref_mut.ensures.value) c.self.invariant.1 in
+    let whole : take inside.lives.len (new ++ drop (length new) inside.lives.items) ≡ new =
+    grind (arith, common_steps, c.hand_out.auto.lives, c.deref_mut.ensures.len) in (
+      c.self.invariant.0,
+      subst (λ (xs : List Life). AreApart xs) (sym whole)
+          (handed c.deref_mut.result.now new c.args.toi (body_seen c.args.body.now) c.in-Ok.place apart c.in-Ok.ensures.0),
+    )
