@@ -2,9 +2,11 @@
 #![tactic(auto)]
 
 mod fdt;
+mod laws;
 mod written;
 
 pub use fdt::{Attr, Fdt, FdtFault, FdtKind, FileEntries, FileEntry, FileFault};
+pub use laws::texts_are_read;
 pub use written::{read_written, written_is_read};
 
 #[cfg(test)]
