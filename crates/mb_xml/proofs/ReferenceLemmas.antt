@@ -6,7 +6,9 @@ use Rattle.std.specs.Char.{is_digit, encode_utf8, InScalarRange, IsScalar}
 use Rattle.std.specs.Str.Parse.{digits_value}
 use Rattle.std.proofs.lemmas.Bool.{cases_Bool, cases_lt, lt-ltb}
 use Rattle.std.proofs.lemmas.Bool.Decides.{nat_tests}
+use Rattle.std.specs.Str.{IsUtf8}
 use Rattle.std.proofs.lemmas.List.{append-nil}
+use Rattle.std.proofs.lemmas.Str.{IsUtf8-take, IsUtf8-drop, IsCharBoundary-before_ascii, IsCharBoundary-after_ascii}
 use Rattle.mb_xml.specs.Reference.{is_character, character_of, referred, replaced, replaced_in}
 use Rattle.mb_xml.specs.Value.{some_if}
 
@@ -111,3 +113,12 @@ unfolding referred
 long_character [] = inl (omega arith)
 long_character (a ∷ []) = let small : unwrap_or (referred (a ∷ [])) 0 < 128 = grind (arith, nat_tests) in inl small
 long_character (a ∷ b ∷ name) = inr (omega arith)
+
+-- ---- texts
+
+-- the parts of a text before and behind a byte below 128 are texts
+pub text_before : (bytes : List ℕ) (k : ℕ) → IsUtf8 bytes → k < length bytes → get_or bytes k 0 < 128 → IsUtf8 (take k bytes)
+text_before bytes k text lt ascii = IsUtf8-take bytes k text (IsCharBoundary-before_ascii bytes k lt ascii)
+
+pub text_behind : (bytes : List ℕ) (k : ℕ) → IsUtf8 bytes → k < length bytes → get_or bytes k 0 < 128 → IsUtf8 (drop (k + 1) bytes)
+text_behind bytes k text lt ascii = IsUtf8-drop bytes (k + 1) text (IsCharBoundary-after_ascii bytes k text lt ascii)

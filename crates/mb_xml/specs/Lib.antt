@@ -2,3 +2,4 @@ pub mod Name
 pub mod Reference
 pub mod Value
 pub mod Seen
+pub mod ValueSeen

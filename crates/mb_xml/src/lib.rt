@@ -8,6 +8,7 @@ mod names;
 mod numbers;
 mod references;
 mod text;
+mod value;
 
 pub use encoded::base64_bytes;
 pub use inside::{Inside, Radix, further};
@@ -15,6 +16,7 @@ pub use names::{is_name_byte, is_name_start, is_space, local_part};
 pub use numbers::number;
 pub use references::{referred, replaced};
 pub use text::utf8_place;
+pub use value::{Characters, characters_in};
 
 #[cfg(test)]
 mod xml_tests;

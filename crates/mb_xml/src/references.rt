@@ -1,4 +1,4 @@
-ghost use Rattle.std.specs.Prelude.{◌≡◌, ◌≢◌, ℕ, ◌+◌, ◌<◌, ◌≤◌, ◌++◌, [], Some, length, slice_index, vec_len, IfOk, IfSome, IfNone};
+ghost use Rattle.std.specs.Prelude.{◌≡◌, ◌≢◌, ℕ, ◌+◌, ◌<◌, ◌≤◌, ◌++◌, [], Some, length, slice_index, vec_len, IfOk, IfSome, IfNone, IsUtf8};
 ghost use Rattle.mb_xml.specs.Reference as reference;
 ghost use Rattle.mb_xml.specs.Seen.{radix_of};
 
@@ -53,6 +53,7 @@ fn character(digits: &[u8], radix: Radix) -> Option<char>
 pub fn replaced(alloc: Global, value: &[u8]) -> Result<Bytes, Memory>
     ensures exact { IfOk result (λ bytes. bytes ≡ reference.replaced value.now) }
     ensures short { IfOk result (λ bytes. length bytes ≤ length value.now) }
+    ensures text { IsUtf8 value.now → IfOk result (λ bytes. IsUtf8 bytes) }
 {
     // No character is longer than its reference, so this is all the room that is needed.
     let mut out = Vec::with_capacity(alloc, value.len())?;
@@ -71,6 +72,7 @@ fn put_reference<'a>(out: &mut Vec<u8>, bytes: &'a [u8]) -> Result<&'a [u8], Mem
         ≡ out.old.items ++ reference.replaced_in (Some []) bytes.now) }
     ensures short { IfOk result (λ rest. vec_len out.new + length rest.now ≤ vec_len out.old + length bytes.now + 1) }
     ensures fewer { IfOk result (λ rest. length rest.now ≤ length bytes.now) }
+    ensures text { IsUtf8 out.old.items → IsUtf8 bytes.now → IfOk result (λ rest. IsUtf8 out.new.items × IsUtf8 rest.now) }
 {
     let Some(count) = place_of(bytes, b';') else {
         return Ok(&[]);
@@ -82,7 +84,7 @@ fn put_reference<'a>(out: &mut Vec<u8>, bytes: &'a [u8]) -> Result<&'a [u8], Mem
 }
 
 /// The place of the first such byte, if there is one.
-fn place_of(bytes: &[u8], byte: u8) -> Option<usize>
+pub(crate) fn place_of(bytes: &[u8], byte: u8) -> Option<usize>
     ensures within { IfSome result (λ place. place < length bytes.now) }
     ensures there { IfSome result (λ place. slice_index bytes.now place ≡ byte) }
     ensures first { IfSome result (λ place. (k : ℕ) → k < place → slice_index bytes.now k ≢ byte) }

@@ -1,9 +1,9 @@
 use Rattle.std.proofs.Common.{◌≡◌, ℕ, ◌+◌, ◌-◌, List, ◌++◌, length, take, drop, Option, unwrap_or, sym, ◌∙◌, ap, inl, inr, append_assoc, arith, length-drop, length-take}
 use Rattle.std.specs.Char.{encode_utf8}
 use Rattle.std.proofs.lemmas.List.{take_all}
-use Rattle.std.proofs.lemmas.Str.{len_utf8_ascii}
+use Rattle.std.proofs.lemmas.Str.{len_utf8_ascii, IsUtf8-append}
 use Rattle.mb_xml.specs.Reference.{referred, replaced}
-use Rattle.mb_xml.proofs.ReferenceLemmas.{reference_at, reference_none, replaced_nil, long_character}
+use Rattle.mb_xml.proofs.ReferenceLemmas.{reference_at, reference_none, replaced_nil, long_character, text_behind}
 use Rattle.mb_xml.proofs.references.put_reference.Goals as goal
 
 pub returns-in_default-clause-exact : goal.returns-in_default-clause-exact
@@ -40,3 +40,14 @@ returns-clause-short c =
       | inr long ↦
           omega (arith, grows, within, long, c.as_bytes.ensures.len, c.encode_utf8.ensures.upper_bound, length-drop (count + 1) bytes, length-take count bytes)
     ])
+
+pub returns-clause-text : goal.returns-clause-text
+returns-clause-text c = λ out_text text.
+    let bytes = c.args.bytes.now in
+    let count = c.in-Some.count in
+    let rest : List ℕ = drop (count + 1) bytes in
+    let rest_is : take (length bytes - (count + 1)) rest ≡ rest = take_all (length bytes - (count + 1)) rest (omega (arith, length-drop (count + 1) bytes)) in
+    let out_is : c.extend_from_slice.new.self.items ≡ c.args.out.now.items ++ c.as_bytes.result.now = c.in_ok-extend_from_slice.ensures.items in (
+      rw out_is (IsUtf8-append c.args.out.now.items c.as_bytes.result.now out_text c.as_bytes.ensures.utf8),
+      rw rest_is (text_behind bytes count text c.in-Some.ensures.within (omega (arith, c.in-Some.ensures.there))),
+    )
