@@ -14,8 +14,8 @@ use Rattle.mb_fdt.proofs.Lists.{each_push}
 use Rattle.mb_fdt.proofs.Characters.{equal_not, longer_name}
 use Rattle.mb_fdt.proofs.Once.{stands_again}
 use Rattle.mb_fdt.proofs.Begun.{further_keeps}
-use Rattle.mb_fdt.proofs.Tags.{InTagOf}
-use Rattle.mb_fdt.proofs.Attributes.{IsNamed, Stands, attribute_of, with_attribute, attribute-bytes, behind_space, stands_none}
+use Rattle.mb_fdt.proofs.TagsRead.{InTagOf}
+use Rattle.mb_fdt.proofs.AttributesRead.{IsNamed, Stands, attribute_of, with_attribute, attribute-bytes, behind_space, stands_none}
 use Rattle.mb_fdt.proofs.TagStates.{IsAttributeName, AttributeNamed, attribute_name_ends}
 use Rattle.mb_fdt.proofs.TagStates.AttributeNamed.{Fresh, Again}
 use Rattle.mb_fdt.proofs.ValueRuns.{plain_next, plain_stands, value_on, plain_is, inside_is, in_reference, stands_begun, begun_stands, quote_is, valued}

@@ -13,9 +13,9 @@ use Rattle.mb_fdt.specs.Reader.Token.{InTag, AttributeName, BehindName, BehindEq
 use Rattle.mb_fdt.proofs.Lists.{each_push, each_front, each_last}
 use Rattle.mb_fdt.proofs.Running.{Goes, goes_byte, goes_along, goes_weaker, goes_late, step-is}
 use Rattle.mb_fdt.proofs.Characters.{space_no_name, longer_name}
-use Rattle.mb_fdt.proofs.Slots.{given}
-use Rattle.mb_fdt.proofs.Tags.{InTagOf}
-use Rattle.mb_fdt.proofs.Attributes.{IsNamed, stands_none}
+use Rattle.mb_fdt.proofs.SlotsFilled.{given}
+use Rattle.mb_fdt.proofs.TagsRead.{InTagOf}
+use Rattle.mb_fdt.proofs.AttributesRead.{IsNamed, stands_none}
 use Rattle.mb_fdt.proofs.TagStates.{IsSpaced, IsAttributeName, IsBehindEquals, IsInValue, AttributeNamed, attribute_name_ends}
 use Rattle.mb_fdt.proofs.TagStates.AttributeNamed.{Fresh, Again}
 

@@ -15,7 +15,7 @@ use Rattle.mb_fdt.specs.Faults.Place.{Inside as Within, Behind}
 use Rattle.mb_fdt.proofs.Lists.{each_append, each_push}
 use Rattle.mb_fdt.proofs.Places.{grown, grown-bytes}
 use Rattle.mb_fdt.proofs.Nesting.{tag-there, closed, closed-bytes, closed-place, behind_tag, behind_tag-bytes, behind_tag-place}
-use Rattle.mb_fdt.proofs.Attributes.{bare, bare-there, rebuilt, with_attribute, attribute_of, attribute-bytes, behind_space}
+use Rattle.mb_fdt.proofs.AttributesRead.{bare, bare-there, rebuilt, with_attribute, attribute_of, attribute-bytes, behind_space}
 use Rattle.mb_fdt.proofs.TextRuns.{start_place, declaration-parts}
 use Rattle.mb_fdt.proofs.MarkupSteps.{commented}
 use Rattle.mb_fdt.proofs.Invariant.{bytes_with}

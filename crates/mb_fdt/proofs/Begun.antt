@@ -9,7 +9,7 @@ use Rattle.mb_xml.specs.Reference.{is_character, character_of, referred, are_ref
 use Rattle.mb_xml.specs.Reference.Inside.{Plain, Named, Numbered, Digits}
 use Rattle.mb_fdt.proofs.Lists.{fronts_same, lasts_same, Ending, ending, each_append, each_front, each_back, push_some}
 use Rattle.mb_fdt.proofs.Lists.Ending.{Empty, Ends}
-use Rattle.mb_fdt.proofs.Slots.{same_bytes}
+use Rattle.mb_fdt.proofs.SlotsFilled.{same_bytes}
 use Rattle.mb_fdt.proofs.References.{Continues, are_behind, reference_then, hexadecimal_known, decimal_known, refs_empty}
 use Rattle.mb_fdt.proofs.Digits.{is_inner, is_quotable, inner-quotable, inner-continues, inner-all_continue, digits-inner, value-append, IsWord, begins_word}
 

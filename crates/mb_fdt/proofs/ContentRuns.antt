@@ -16,7 +16,7 @@ use Rattle.mb_fdt.proofs.Characters.{not_equal}
 use Rattle.mb_fdt.proofs.Comments.{lacks-front, hyphens_after, hyphens-push, comment_open}
 use Rattle.mb_fdt.proofs.Places.{grown, grown-bytes, grown-at}
 use Rattle.mb_fdt.proofs.Nesting.{closed, closed-bytes, closed-at}
-use Rattle.mb_fdt.proofs.Tags.{ReaderAt}
+use Rattle.mb_fdt.proofs.TagsRead.{ReaderAt}
 use Rattle.mb_fdt.proofs.States.{starts, start_of, first_token, token_at, IsPlaced, IsOpened, opening-step, opening-is, inside-element}
 use Rattle.mb_fdt.proofs.ElementRuns.{placed_by, token-open}
 

@@ -6,7 +6,7 @@ use Rattle.std.specs.Str.Parse.{digits_value_after}
 use Rattle.std.proofs.lemmas.Bool.{cases_Bool, and_parts, or_cases, or_left, or_right, not-true}
 use Rattle.mb_xml.specs.Reference.{referred, named_references}
 use Rattle.mb_fdt.proofs.Lists.{fronts_same}
-use Rattle.mb_fdt.proofs.Slots.{same_bytes}
+use Rattle.mb_fdt.proofs.SlotsFilled.{same_bytes}
 use Rattle.mb_fdt.proofs.References.{Continues, is_word, starts_is, starts_from}
 
 -- ---- the number that digits write

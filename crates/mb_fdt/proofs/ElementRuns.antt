@@ -19,8 +19,8 @@ use Rattle.mb_fdt.proofs.Counting.{Counts, steps_count}
 use Rattle.mb_fdt.proofs.Characters.{apart}
 use Rattle.mb_fdt.proofs.Places.{IsKept, RootKept}
 use Rattle.mb_fdt.proofs.Nesting.{tag-there, close_bytes, behind_tag, behind_tag-bytes, shallow-behind_tag, root_tag-root, child_tag-files}
-use Rattle.mb_fdt.proofs.Tags.{ReaderAt, HasRoom, tags_of-file}
-use Rattle.mb_fdt.proofs.Attributes.{IsNameThere}
+use Rattle.mb_fdt.proofs.TagsRead.{ReaderAt, HasRoom, tags_of-file}
+use Rattle.mb_fdt.proofs.AttributesRead.{IsNameThere}
 use Rattle.mb_fdt.proofs.States.{starts, start_of, token_at, IsPlaced, IsOpened, opening-step, opening-is, may_begin, first_token}
 use Rattle.mb_fdt.proofs.TagStates.{IsNaming, length-path}
 use Rattle.mb_fdt.proofs.TagRuns.{TagGoes, tag_with, naming_goes, spaces_go, tag_closes}

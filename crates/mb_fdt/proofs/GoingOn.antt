@@ -16,7 +16,7 @@ use Rattle.mb_fdt.proofs.Comments.{lacks-none}
 use Rattle.mb_fdt.proofs.Digits.{is_quotable}
 use Rattle.mb_fdt.proofs.Completing.{begun_completed}
 use Rattle.mb_fdt.proofs.Nesting.{closed, closed-bytes, closed-place}
-use Rattle.mb_fdt.proofs.Attributes.{Stands, behind_space}
+use Rattle.mb_fdt.proofs.AttributesRead.{Stands, behind_space}
 use Rattle.mb_fdt.proofs.ValueRuns.{read_slot}
 use Rattle.mb_fdt.proofs.TextRuns.{start_place}
 use Rattle.mb_fdt.proofs.MarkupSteps.{forbidden_there}

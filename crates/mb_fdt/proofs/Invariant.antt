@@ -8,8 +8,8 @@ use Rattle.mb_fdt.specs.Faults.{Open, Place, bytes_before, Shows}
 use Rattle.mb_fdt.specs.Faults.Place.{Inside as Within}
 use Rattle.mb_fdt.specs.Reader.{Reader, Token, Slot, Next, Quoted}
 use Rattle.mb_fdt.specs.Reader.Token.{Front, ByteOrderMark, Between, Opened, Declares, Declaration, Bang, BangDash, Banned, Comment, ElementName, InTag, AttributeName, BehindName, BehindEquals, Value, BehindValue, Slash, EndName, EndSpace}
-use Rattle.mb_fdt.proofs.Tags.{ReaderAt, InTagOf}
-use Rattle.mb_fdt.proofs.Attributes.{behind_space}
+use Rattle.mb_fdt.proofs.TagsRead.{ReaderAt, InTagOf}
+use Rattle.mb_fdt.proofs.AttributesRead.{behind_space}
 use Rattle.mb_fdt.proofs.States.{token_at, IsOpened}
 use Rattle.mb_fdt.proofs.TagStates.{IsNaming, IsSpaced, IsValued, IsAttributeName, IsBehindName, IsBehindEquals, IsInValue}
 use Rattle.mb_fdt.proofs.ContentRuns.{IsCommenting}

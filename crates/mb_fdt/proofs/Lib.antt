@@ -1,4 +1,4 @@
--- what is written is read
+-- what is written for files of one symbol is read
 pub mod Fields
 pub mod Numbers
 pub mod Locations
@@ -17,13 +17,13 @@ pub mod Begun
 pub mod Values
 pub mod Completing
 -- places, tags, and what a reader knows there
-pub mod Slots
+pub mod SlotsFilled
 pub mod Once
 pub mod Comments
 pub mod Places
 pub mod Nesting
-pub mod Tags
-pub mod Attributes
+pub mod TagsRead
+pub mod AttributesRead
 pub mod States
 pub mod TagStates
 -- a reader gets to each place of the grammar, or finds a late fault
@@ -53,3 +53,18 @@ pub mod Stopping
 pub mod Utf8Lemmas
 pub mod FaultLaws
 pub mod FaultsFound
+-- what is written under any scheme is read
+pub mod PlainValues
+pub mod Escaping
+pub mod WrittenTags
+pub mod WrittenElements
+pub mod WrittenEntries
+pub mod WrittenContent
+pub mod WrittenTexts
+-- the reader and the writer
+pub mod SlotLemmas
+pub mod SaidLemmas
+pub mod RefusalLemmas
+pub mod TextLemmas
+pub mod StepLemmas
+pub mod WriteLemmas

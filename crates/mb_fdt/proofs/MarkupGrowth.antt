@@ -12,7 +12,7 @@ use Rattle.mb_fdt.specs.Reader.{Reader, Next, next, go, fail, syntax, between, o
 use Rattle.mb_fdt.specs.Reader.Token.{Front, Between, Opened, Declares, EndName}
 use Rattle.mb_fdt.proofs.Characters.{equal_not}
 use Rattle.mb_fdt.proofs.Places.{grown, grown-bytes, grown-at, AreShallow}
-use Rattle.mb_fdt.proofs.Tags.{ReaderAt}
+use Rattle.mb_fdt.proofs.TagsRead.{ReaderAt}
 use Rattle.mb_fdt.proofs.States.{starts, start_of, first_token, token_at, start_is, is_start, IsOpened, outside-element, behind-element, some_root}
 use Rattle.mb_fdt.proofs.ElementRuns.{NameBegins, name_begins}
 use Rattle.mb_fdt.proofs.ElementRuns.NameBegins.{Begins, Deep}

@@ -14,7 +14,7 @@ use Rattle.mb_fdt.proofs.Lists.{each_push}
 use Rattle.mb_fdt.proofs.Comments.{lacks-none, hyphens_after, hyphens-push, ends_two, comment_goes_on, lacks-front, question-push, ends_question, declaration_goes_on}
 use Rattle.mb_fdt.proofs.Places.{grown, grown-bytes, grown-at}
 use Rattle.mb_fdt.proofs.Nesting.{closed, closed-bytes, closed-at}
-use Rattle.mb_fdt.proofs.Tags.{ReaderAt}
+use Rattle.mb_fdt.proofs.TagsRead.{ReaderAt}
 use Rattle.mb_fdt.proofs.States.{start_of}
 use Rattle.mb_fdt.proofs.ContentRuns.{token-grown, token-closed}
 use Rattle.mb_fdt.proofs.TextRuns.{start_place, declared, declaration-parts}

@@ -6,7 +6,7 @@ use Rattle.std.proofs.lemmas.List.Sums.{sum_by-cons, sum_by-append}
 use Rattle.std.proofs.lemmas.List.Folds.{Any-from_list_any, list_any-from_Any}
 use Rattle.mb_fdt.specs.Element.{Attribute}
 use Rattle.mb_fdt.specs.Says.{AreOnce}
-use Rattle.mb_fdt.proofs.Slots.{same_bytes, bytes_same, given}
+use Rattle.mb_fdt.proofs.SlotsFilled.{same_bytes, bytes_same, given}
 
 -- one element of the count
 count-cons : {A : Type 0} (p : A → Bool) (x : A) (xs : List A) → count_by p (x ∷ xs) ≡ cond (p x) 1 0 + count_by p xs

@@ -11,7 +11,7 @@ use Rattle.mb_fdt.specs.Says.{value_of, file_tags, files_in, expires_in, AreOnce
 use Rattle.mb_fdt.specs.Faults.{Open, Place, bytes_before, IsPlace}
 use Rattle.mb_fdt.specs.Faults.Place.{Inside, Behind}
 use Rattle.mb_fdt.specs.Reader.{RootSays}
-use Rattle.mb_fdt.proofs.Slots.{slots_of}
+use Rattle.mb_fdt.proofs.SlotsFilled.{slots_of}
 
 -- ---- what is known at a place
 

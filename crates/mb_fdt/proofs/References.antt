@@ -3,7 +3,7 @@ use Rattle.std.proofs.Common.{◌≡◌, ℕ, Bool, true, false, cond, ◌&&◌,
 use Rattle.std.specs.List.{AllByRecursion, list_any, starts_with}
 use Rattle.std.proofs.lemmas.Bool.{cases_Bool, both_ways, and_parts}
 use Rattle.mb_xml.specs.Reference.{character_of, referred, are_references_in, are_references, named_references}
-use Rattle.mb_fdt.proofs.Slots.{same_bytes, bytes_same}
+use Rattle.mb_fdt.proofs.SlotsFilled.{same_bytes, bytes_same}
 
 -- ---- one byte
 

@@ -14,10 +14,10 @@ use Rattle.mb_fdt.specs.Reader.{Reader, begin, Next, step, steps, go, fail, name
 use Rattle.mb_fdt.specs.Reader.Token.{ElementName, AttributeName, Slash}
 use Rattle.mb_fdt.proofs.Running.{Goes, goes_on, goes_one, goes_weaker, step-is}
 use Rattle.mb_fdt.proofs.Once.{is_given}
-use Rattle.mb_fdt.proofs.Slots.{slot_holds}
+use Rattle.mb_fdt.proofs.SlotsFilled.{slot_holds}
 use Rattle.mb_fdt.proofs.Places.{RootKept}
 use Rattle.mb_fdt.proofs.Nesting.{tag-there, root_tag-root}
-use Rattle.mb_fdt.proofs.Tags.{InTagOf, LacksExpires, TagEnds, tag_ends}
+use Rattle.mb_fdt.proofs.TagsRead.{InTagOf, LacksExpires, TagEnds, tag_ends}
 use Rattle.mb_fdt.proofs.States.{start_of, IsOpened}
 use Rattle.mb_fdt.proofs.TagStates.{IsNaming, IsSpaced, IsAttributeName, NameEnds, name_ends, AttributeNamed, attribute_name_ends, names-read}
 use Rattle.mb_fdt.proofs.TagStates.NameEnds.{Tagged, NoRoot, TooMany}

@@ -8,7 +8,7 @@ use Rattle.mb_fdt.specs.Faults.Place.{Inside, Behind}
 use Rattle.mb_fdt.specs.Reader.{Reader, Token, RootSays, step, between, in_content, before_root}
 use Rattle.mb_fdt.specs.Reader.Token.{Front, Between, Opened}
 use Rattle.mb_fdt.proofs.Places.{place_root, place_names, open_names, root_says}
-use Rattle.mb_fdt.proofs.Tags.{ReaderAt}
+use Rattle.mb_fdt.proofs.TagsRead.{ReaderAt}
 use Rattle.mb_fdt.proofs.Running.{step-is}
 
 -- ---- the start of the text

@@ -11,8 +11,8 @@ use Rattle.mb_fdt.specs.Reader.Token.{ElementName, AttributeName}
 use Rattle.mb_fdt.proofs.Lists.{push_some}
 use Rattle.mb_fdt.proofs.Characters.{longer_name}
 use Rattle.mb_fdt.proofs.Nesting.{behind_tag, behind_tag-bytes, close_bytes}
-use Rattle.mb_fdt.proofs.Tags.{InTagOf, LacksExpires, TagEnds, tag_ends}
-use Rattle.mb_fdt.proofs.Attributes.{bare, spaced, spaced-in_tag, spaced-bytes}
+use Rattle.mb_fdt.proofs.TagsRead.{InTagOf, LacksExpires, TagEnds, tag_ends}
+use Rattle.mb_fdt.proofs.AttributesRead.{bare, spaced, spaced-in_tag, spaced-bytes}
 use Rattle.mb_fdt.proofs.TagStates.{IsNaming, NameEnds, name_ends}
 use Rattle.mb_fdt.proofs.TagStates.NameEnds.{Tagged, NoRoot, TooMany}
 use Rattle.mb_fdt.proofs.ElementRuns.{token-behind_tag}

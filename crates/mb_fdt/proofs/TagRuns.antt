@@ -17,8 +17,8 @@ use Rattle.mb_fdt.proofs.Running.{IsLate, Goes, goes_on, goes_byte, goes_one, go
 use Rattle.mb_fdt.proofs.Characters.{space_no_name, no_name_no_start}
 use Rattle.mb_fdt.proofs.Places.{place_root, RootKept, IsKept}
 use Rattle.mb_fdt.proofs.Nesting.{behind_tag, close_bytes, root_tag-root}
-use Rattle.mb_fdt.proofs.Tags.{ReaderAt, HasRoom, InTagOf, LacksExpires, TagEnds, tag_ends}
-use Rattle.mb_fdt.proofs.Attributes.{bare, IsNameThere, spaced, spaced-in_tag}
+use Rattle.mb_fdt.proofs.TagsRead.{ReaderAt, HasRoom, InTagOf, LacksExpires, TagEnds, tag_ends}
+use Rattle.mb_fdt.proofs.AttributesRead.{bare, IsNameThere, spaced, spaced-in_tag}
 use Rattle.mb_fdt.proofs.TagStates.{IsNaming, IsSpaced, IsValued, NameEnds, name_ends}
 use Rattle.mb_fdt.proofs.TagStates.NameEnds.{Tagged, NoRoot, TooMany}
 

@@ -12,10 +12,10 @@ use Rattle.mb_fdt.specs.Faults.{Open, bytes_before}
 use Rattle.mb_fdt.specs.Faults.Place.{Inside as Within}
 use Rattle.mb_fdt.specs.Reader.{Reader, Slot, Slots, Quoted, fail, in_tag, named, attribute_named, equals, names_read, slot, slot_of, no_slots}
 use Rattle.mb_fdt.specs.Reader.Token.{ElementName, InTag, AttributeName, BehindName, BehindEquals, Value, BehindValue}
-use Rattle.mb_fdt.proofs.Slots.{same_bytes, other_bytes, given, slot_holds, place_is}
+use Rattle.mb_fdt.proofs.SlotsFilled.{same_bytes, other_bytes, given, slot_holds, place_is}
 use Rattle.mb_fdt.proofs.Places.{length-names, open_files}
-use Rattle.mb_fdt.proofs.Tags.{ReaderAt, HasRoom, InTagOf}
-use Rattle.mb_fdt.proofs.Attributes.{bare, IsNameThere, bare-in_tag, IsNamed, IsQuoted}
+use Rattle.mb_fdt.proofs.TagsRead.{ReaderAt, HasRoom, InTagOf}
+use Rattle.mb_fdt.proofs.AttributesRead.{bare, IsNameThere, bare-in_tag, IsNamed, IsQuoted}
 
 -- ---- states
 

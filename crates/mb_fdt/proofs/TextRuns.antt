@@ -16,7 +16,7 @@ use Rattle.mb_fdt.proofs.Characters.{not_equal}
 use Rattle.mb_fdt.proofs.Comments.{lacks-front, lacks-none, question_after, question-push, declaration_open}
 use Rattle.mb_fdt.proofs.Places.{grown, IsKept, IsAt}
 use Rattle.mb_fdt.proofs.Nesting.{closed-kept, kept-closed}
-use Rattle.mb_fdt.proofs.Tags.{ReaderAt}
+use Rattle.mb_fdt.proofs.TagsRead.{ReaderAt}
 use Rattle.mb_fdt.proofs.States.{token_at, IsPlaced, IsOpened, between-step, opening-step, opening-is}
 use Rattle.mb_fdt.proofs.ElementRuns.{placed_by, tag_placed}
 use Rattle.mb_fdt.proofs.ContentRuns.{byte_placed, comment_placed, end_placed}

@@ -18,9 +18,9 @@ use Rattle.mb_fdt.specs.Reader.{Reader, Token, RootSays, begin, Next, steps, sai
 use Rattle.mb_fdt.specs.Reader.Token.{Between}
 use Rattle.mb_fdt.specs.Laws.{TextsAreRead}
 use Rattle.mb_fdt.proofs.Running.{Goes}
-use Rattle.mb_fdt.proofs.Slots.{given-value}
+use Rattle.mb_fdt.proofs.SlotsFilled.{given-value}
 use Rattle.mb_fdt.proofs.Places.{root_says, IsKept}
-use Rattle.mb_fdt.proofs.Tags.{ReaderAt}
+use Rattle.mb_fdt.proofs.TagsRead.{ReaderAt}
 use Rattle.mb_fdt.proofs.States.{IsPlaced}
 use Rattle.mb_fdt.proofs.TextRuns.{place_goes}
 use Rattle.mb_fdt.proofs.Invariant.{Reads}

@@ -15,11 +15,11 @@ use Rattle.mb_fdt.specs.Reader.Token.{Value, BehindValue}
 use Rattle.mb_fdt.proofs.Lists.{each_push, each_front, each_last}
 use Rattle.mb_fdt.proofs.Running.{Goes, goes_on, goes_byte, goes_one, goes_nowhere, goes_along, goes_weaker, step-is}
 use Rattle.mb_fdt.proofs.Characters.{not_equal}
-use Rattle.mb_fdt.proofs.Slots.{given, place_is}
+use Rattle.mb_fdt.proofs.SlotsFilled.{given, place_is}
 use Rattle.mb_fdt.proofs.Once.{twice}
 use Rattle.mb_fdt.proofs.Begun.{IsBegun, plain-amp, plain-other, further_keeps}
 use Rattle.mb_fdt.proofs.Values.{further_found, ends_plain}
-use Rattle.mb_fdt.proofs.Attributes.{IsNamed, Stands, attribute_of, with_attribute, attribute-in_tag}
+use Rattle.mb_fdt.proofs.AttributesRead.{IsNamed, Stands, attribute_of, with_attribute, attribute-in_tag}
 use Rattle.mb_fdt.proofs.TagStates.{IsSpaced, IsValued, IsAttributeName, IsInValue}
 use Rattle.mb_fdt.proofs.TagRuns.{TagGoes, tag_with, valued_goes, some_spaces_go}
 use Rattle.mb_fdt.proofs.AttributeRuns.{NameGoes, name_goes, named_goes, behind_name_spaces, BehindEqualsOf, equals_goes, equals_spaces, empty_value, value_begins}

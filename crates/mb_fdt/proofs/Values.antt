@@ -8,7 +8,7 @@ use Rattle.std.proofs.lemmas.List.Folds.{list_all-append}
 use Rattle.mb_xml.specs.Reference.{is_character, character_of, referred, are_references, Inside, named_references, named_further, digits_further, referred_further}
 use Rattle.mb_xml.specs.Reference.Inside.{Plain, Named, Numbered, Digits}
 use Rattle.mb_fdt.proofs.Lists.{each_front}
-use Rattle.mb_fdt.proofs.Slots.{bytes_same}
+use Rattle.mb_fdt.proofs.SlotsFilled.{bytes_same}
 use Rattle.mb_fdt.proofs.References.{Continues, Known, known_is, reference_ends, cut_reference, starts_from, hexadecimal_known, decimal_known, is_word}
 use Rattle.mb_fdt.proofs.References.Known.{Word, Hexadecimal, Decimal}
 use Rattle.mb_fdt.proofs.Digits.{is_inner, inner-continues, inner-all_continue, digit-inner, value-append, value_grows, IsWord, word_is, word_begins}

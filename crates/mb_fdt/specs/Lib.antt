@@ -7,6 +7,13 @@ pub mod Faults
 pub mod Reader
 pub mod WrittenForm
 pub mod Laws
+pub mod Values
+pub mod SlotsSeen
+pub mod PathSeen
+pub mod EntrySeen
+pub mod SaidSeen
+pub mod CodingSeen
+pub mod ReaderSeen
 pub mod Reading
 pub mod Seen
 pub mod Written

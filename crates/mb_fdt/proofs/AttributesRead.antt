@@ -14,11 +14,11 @@ use Rattle.mb_fdt.specs.Faults.{Open, IsTagThere, bytes_before}
 use Rattle.mb_fdt.specs.Faults.Place.{Inside as Within}
 use Rattle.mb_fdt.specs.Reader.{Reader, Slots, Slot, Quoted, no_slots, slot_of, slot, with_slot, with_value}
 use Rattle.mb_fdt.proofs.Lists.{each_push}
-use Rattle.mb_fdt.proofs.Slots.{given, slots_of, slot_holds, slot_none, slots-push, slots-other, names_distinct, place_is}
+use Rattle.mb_fdt.proofs.SlotsFilled.{given, slots_of, slot_holds, slot_none, slots-push, slots-other, names_distinct, place_is}
 use Rattle.mb_fdt.proofs.Once.{once-push, once-none}
 use Rattle.mb_fdt.proofs.Nesting.{tag-there}
 use Rattle.mb_fdt.proofs.Begun.{IsBegun}
-use Rattle.mb_fdt.proofs.Tags.{ReaderAt, HasRoom, InTagOf}
+use Rattle.mb_fdt.proofs.TagsRead.{ReaderAt, HasRoom, InTagOf}
 use Rattle.mb_fdt.proofs.References.{refs_empty}
 
 -- another tag of the same name

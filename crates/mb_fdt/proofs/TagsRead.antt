@@ -16,7 +16,7 @@ use Rattle.mb_fdt.specs.Faults.Place.{Inside}
 use Rattle.mb_fdt.specs.Reader.{Reader, RootSays, Slots, Next, root_value, file_value, root_slots, tag_end, leave, with_expires}
 use Rattle.mb_fdt.specs.Reader.Token.{Between}
 use Rattle.mb_fdt.proofs.Lists.{each_push}
-use Rattle.mb_fdt.proofs.Slots.{given, slots_of, given-value}
+use Rattle.mb_fdt.proofs.SlotsFilled.{given, slots_of, given-value}
 use Rattle.mb_fdt.proofs.Places.{open_root, place_root, open_files, place_files, open_names, root_says, file_says, RootKept, IsKept, IsAt}
 use Rattle.mb_fdt.proofs.Nesting.{behind_tag, behind_tag-place, behind_tag-root, root_tag-root, root_tag-files, child_tag-files, deep_tag-files, behind_tag-names, behind_tag-shallow}
 use Rattle.mb_xml.specs.Reference.{replaced}

@@ -1,0 +1,11 @@
+use Rattle.std.proofs.Common.{◌≡◌, drop, Ok}
+use Rattle.mb_fdt.specs.Reader.{steps, begin}
+use Rattle.mb_fdt.specs.ReaderSeen.{reader_of, IsPlaced}
+use Rattle.mb_fdt.proofs.read.read_utf8.Given as goal
+
+abbrev pub invariant-loop-at : goal.invariant-loop-at
+invariant-loop-at l = record {
+  same : steps (Ok (reader_of l.at l.token l.reader)) (drop l.at l.text) ≡ steps (Ok begin) l.text;
+  placed : IsPlaced l.at l.token l.reader;
+  text : l.reader.text.now ≡ l.text;
+}

@@ -1,0 +1,240 @@
+ghost use Rattle.std.specs.Prelude.{◌≡◌, ◌&&◌, ◌||◌, IfOk, IfSome, IsUtf8, is_some, is_none, length, unwrap_or, []};
+ghost use Rattle.mb_geom.specs.Description.{described};
+ghost use Rattle.mb_fdt.specs.Entry.{entry_of, said_by, refusals, first_refusal, unless, parts_of, raptor_of};
+ghost use Rattle.mb_fdt.specs.SaidSeen.{said_of, value_of};
+ghost use Rattle.mb_fdt.specs.EntrySeen as seen;
+ghost use Rattle.mb_fdt.specs.Reader.{root_value, file_value};
+ghost use Rattle.mb_fdt.specs.SlotsSeen.{slots_of};
+ghost use Rattle.mb_fdt.specs.EntrySeen.{IsRead, scheme_by, parts_by};
+
+use crate::fdt::FileFault::{BadInfo, BadMd5, BadNumber, LongLocation, NoLocation, NoToi};
+use crate::fdt::{Attr, FileEntry, FileFault};
+use crate::known::{ENCODING_ID, INFO, MAX_BLOCK, SYMBOL};
+use crate::root::RootSays;
+use crate::said::*;
+use crate::slots::Slots;
+use mb_base::{Bytes, Memory, be16};
+use mb_geom::{Desc, DescParts, Scheme};
+use std::alloc::Global;
+
+/// The most bytes of a location.
+const MAX_LOCATION: usize = 2048;
+
+/// The FEC Encoding ID of Compact No-Code (RFC 3695 section 3).
+const NO_CODE: u8 = 0;
+
+/// The FEC Encoding ID of Raptor (RFC 5053 section 3.1).
+const RAPTOR: u8 = 1;
+
+/// What the values of the attributes of a File element say, each where it is given and can be read.
+#[derive(Drop)]
+struct Values {
+    location: Option<Bytes>,
+    toi: Option<u128>,
+    content_length: Option<u64>,
+    transfer_length: Option<u64>,
+    encoded: bool,
+    md5: Option<[u8; 16]>,
+    encoding_id: Option<u8>,
+    max_block: Option<u32>,
+    symbol: Option<u16>,
+    info: Option<[u8; 4]>,
+}
+
+/// What the values say.
+fn values_of(
+    alloc: Global,
+    said: &Said<'_>,
+    root: &RootSays<'_>,
+    file: &Slots<'_>,
+) -> Result<Values, Memory>
+    requires exact { said_of said.now ≡ said_by (root_value (slots_of root.now.slots)) (file_value (slots_of file.now)) }
+    requires text { IfSome said.now.location (λ location. IsUtf8 location.now) }
+    ensures exact { IfOk result (IsRead (said_of said.now)) }
+    ensures text { IfOk result (λ values. IfSome values.location IsUtf8) }
+{
+    let on_file = is_filled(alloc, said.encoding)?;
+    Ok(Values {
+        location: location_in(alloc, said.location)?,
+        toi: toi_in(alloc, said.toi)?,
+        content_length: u64_in(alloc, said.content_length)?,
+        transfer_length: u64_in(alloc, said.transfer_length)?,
+        encoded: on_file || root.coding.encoded,
+        md5: bytes_in(alloc, said.md5)?,
+        encoding_id: u8_over(alloc, file.value(ENCODING_ID), root.coding.encoding_id)?,
+        max_block: u32_over(alloc, file.value(MAX_BLOCK), root.coding.max_block)?,
+        symbol: u16_over(alloc, file.value(SYMBOL), root.coding.symbol)?,
+        info: info_over(alloc, file.value(INFO), root.coding.info)?,
+    })
+}
+
+/// The first fault whose condition holds.
+fn first_fault(refusals: &[(bool, FileFault)]) -> Option<FileFault>
+    ensures { result ≡ first_refusal refusals.now }
+{
+    for (holds, fault) in refusals {
+        if *holds {
+            return Some(*fault);
+        }
+    }
+    None
+}
+
+/// Whether an attribute is given and can't be read.
+fn is_bad<T>(value: Option<&[u8]>, read: &Option<T>) -> bool
+    ensures { result ≡ (is_some (value_of value.entry) && is_none read.now) }
+{
+    value.is_some() && read.is_none()
+}
+
+/// Whether an attribute is used and given and can't be read.
+fn is_bad_where<T>(used: bool, value: Option<&[u8]>, read: &Option<T>) -> bool
+    ensures { result ≡ (used && (is_some (value_of value.entry) && is_none read.now)) }
+{
+    used && is_bad(value, read)
+}
+
+/// Whether the FEC Encoding ID is this number.
+fn is_id(values: &Values, id: u8) -> bool
+    ensures { result ≡ seen.is_id id values.now.encoding_id }
+{
+    values.encoding_id == Some(id)
+}
+
+/// Whether the FEC Encoding ID is that of a scheme that is read.
+fn has_scheme(values: &Values) -> bool
+    ensures { result ≡ (seen.is_id 0 values.now.encoding_id || seen.is_id 1 values.now.encoding_id) }
+{
+    is_id(values, NO_CODE) || is_id(values, RAPTOR)
+}
+
+/// How many bytes the location has, 0 where none is given.
+fn location_length(values: &Values) -> usize
+    ensures { result ≡ length (unwrap_or values.now.location []) }
+{
+    match &values.location {
+        Some(location) => location.len(),
+        None => 0,
+    }
+}
+
+/// Why the element is refused by its attributes, the first reason that holds.
+fn refusal(said: &Said<'_>, values: &Values) -> Option<FileFault>
+    requires { IsRead (said_of said.now) values.now }
+    ensures { result ≡ first_refusal (refusals (said_of said.now)) }
+{
+    let block = is_bad_where(is_id(values, NO_CODE), said.max_block, &values.max_block);
+    let symbol = is_bad_where(has_scheme(values), said.symbol, &values.symbol);
+    let info = is_bad_where(is_id(values, RAPTOR), said.info, &values.info);
+    first_fault(&[
+        (said.location.is_none(), NoLocation),
+        (location_length(values) > MAX_LOCATION, LongLocation),
+        (said.toi.is_none(), NoToi),
+        (is_bad(said.toi, &values.toi), BadNumber(Attr::Toi)),
+        (
+            is_bad(said.content_length, &values.content_length),
+            BadNumber(Attr::ContentLength),
+        ),
+        (
+            is_bad(said.transfer_length, &values.transfer_length),
+            BadNumber(Attr::TransferLength),
+        ),
+        (
+            is_bad(said.encoding_id, &values.encoding_id),
+            BadNumber(Attr::FecOtiFecEncodingId),
+        ),
+        (block, BadNumber(Attr::FecOtiMaximumSourceBlockLength)),
+        (symbol, BadNumber(Attr::FecOtiEncodingSymbolLength)),
+        (is_bad(said.md5, &values.md5), BadMd5),
+        (info, BadInfo),
+    ])
+}
+
+/// Raptor with Z, N and Al (RFC 5053 section 3.2.3).
+fn raptor(info: [u8; 4]) -> Scheme
+    ensures { result ≡ raptor_of info }
+{
+    Scheme::Raptor {
+        z: be16(&info[..2]),
+        n: info[2],
+        al: info[3],
+    }
+}
+
+/// The scheme, with the parameters that it needs.
+fn scheme(values: &Values) -> Option<Scheme>
+    ensures { result ≡ scheme_by values.now }
+{
+    if is_id(values, NO_CODE) {
+        let max_block = values.max_block?;
+        Some(Scheme::NoCode { max_block })
+    } else if is_id(values, RAPTOR) {
+        Some(raptor(values.info?))
+    } else {
+        None
+    }
+}
+
+/// The location, and no bytes where none is given.
+fn location_or_empty(alloc: Global, location: Option<Bytes>) -> Bytes
+    ensures { result ≡ unwrap_or location [] }
+{
+    match location {
+        Some(location) => location,
+        None => Bytes::from_vec(Vec::new(alloc)),
+    }
+}
+
+/// The parts of the description.
+fn parts(alloc: Global, values: Values) -> DescParts
+    ensures { result ≡ parts_by values }
+{
+    let scheme = scheme(&values);
+    let symbol = if has_scheme(&values) {
+        values.symbol
+    } else {
+        None
+    };
+    DescParts {
+        content_length: values.content_length,
+        transfer_length: values.transfer_length,
+        encoded: values.encoded,
+        symbol,
+        scheme,
+        md5: values.md5,
+        location: location_or_empty(alloc, values.location),
+    }
+}
+
+/// The description, or why there is none.
+fn description(alloc: Global, said: &Said<'_>, values: Values) -> Result<Desc, FileFault>
+    requires read { IsRead (said_of said.now) values }
+    requires text { IfSome values.location IsUtf8 }
+    ensures { result ≡ unless (first_refusal (refusals (said_of said.now))) (described (parts_of (said_of said.now))) }
+{
+    if let Some(fault) = refusal(said, &values) {
+        return Err(fault);
+    }
+    match Desc::new(parts(alloc, values)) {
+        Ok(desc) => Ok(desc),
+        Err(fault) => Err(FileFault::Desc(fault)),
+    }
+}
+
+/// The entry of a File element with these values under a root that says this (RFC 3926 sections 3.4.2 and 5.1.1, TS
+/// 26.346 section 7.2.10).
+#[tactic(auto, unfolding(crate::specs::Entry::entry_of))]
+pub(crate) fn entry(
+    alloc: Global,
+    root: &RootSays<'_>,
+    file: &Slots<'_>,
+) -> Result<FileEntry, Memory>
+    ensures { IfOk result (λ entry. entry ≡ entry_of (said_by (root_value (slots_of root.now.slots)) (file_value (slots_of file.now)))) }
+{
+    let said = said_in(&root.slots, file);
+    let values = values_of(alloc, &said, root, file)?;
+    Ok(FileEntry {
+        toi: values.toi,
+        entry: description(alloc, &said, values),
+    })
+}

@@ -1,0 +1,109 @@
+ghost use Rattle.std.specs.Prelude.{◌≡◌, IfOk, IsUtf8, Ok, Bool, option_map};
+ghost use Rattle.std.specs.Str.{is_utf8};
+ghost use Rattle.mb_xml.specs.Value.{is_complete};
+ghost use Rattle.mb_fdt.specs.Reader as definition;
+ghost use Rattle.mb_fdt.specs.Reader.{steps, begin, fdt_of};
+ghost use Rattle.mb_fdt.specs.ReaderSeen.{reader_of, reader_at, root_of, IsPlaced};
+ghost use Rattle.mb_fdt.specs.PathSeen.{path_of};
+ghost use Rattle.mb_fdt.specs.SaidSeen.{value_of};
+
+use crate::fdt::{Fdt, FdtFault, FdtKind, FileEntries};
+use crate::known::COMPLETE;
+use crate::reader::Reader;
+use crate::token::Token;
+use mb_base::Memory;
+use mb_xml::{characters_in, utf8_place};
+use std::alloc::Global;
+
+/// What the text of an FDT Instance says (RFC 3926 section 3.4.2, as a profile of XML 1.0), or its one fault with
+/// the place where that shows. It is read once, from its first byte to its last or to the first fault.
+///
+/// # Errors
+///
+/// [`Memory`] where there is no memory for the files, their locations or a value that has references.
+#[tactic(auto, unfolding(crate::specs::Reader::fdt_of))]
+pub fn read_fdt(alloc: Global, text: &[u8]) -> Result<Result<Fdt, FdtFault>, Memory>
+    ensures { IfOk result (λ answer. answer ≡ fdt_of text.now) }
+{
+    match utf8_place(text) {
+        Some(place) => Ok(Err(FdtFault {
+            kind: FdtKind::NotUtf8,
+            place,
+        })),
+        None => read_utf8(alloc, text),
+    }
+}
+
+/// The same of a text that is UTF-8.
+fn read_utf8(alloc: Global, text: &[u8]) -> Result<Result<Fdt, FdtFault>, Memory>
+    requires { IsUtf8 text.now }
+    ensures { IfOk result (λ answer. answer ≡ definition.finish (steps (Ok begin) text.now)) }
+{
+    let mut reader = Reader::begin(alloc, text);
+    let mut token = Token::Front;
+    for (at, byte) in text.iter().enumerate() {
+        match reader.step(alloc, at, *byte, token)? {
+            Ok(next) => token = next,
+            Err(fault) => return Ok(Err(fault)),
+        }
+    }
+    finish(alloc, text.len(), token, reader)
+}
+
+/// What stands there where the text ends.
+#[tactic(auto, unfolding(crate::specs::Reader::finish))]
+fn finish(
+    alloc: Global,
+    at: usize,
+    token: Token<'_>,
+    reader: Reader<'_>,
+) -> Result<Result<Fdt, FdtFault>, Memory>
+    requires { IsPlaced at token reader }
+    ensures { IfOk result (λ answer. answer ≡ definition.finish (Ok (reader_of at token.entry reader.entry))) }
+{
+    match token {
+        Token::Between { .. } => whole(alloc, at, reader),
+        Token::Banned { .. } => Ok(Err(FdtFault {
+            kind: FdtKind::Syntax,
+            place: reader.markup + 2,
+        })),
+        _ => Ok(Err(FdtFault {
+            kind: FdtKind::Syntax,
+            place: at,
+        })),
+    }
+}
+
+/// What stands there where the text ends and nothing is begun.
+fn whole(alloc: Global, at: usize, reader: Reader<'_>) -> Result<Result<Fdt, FdtFault>, Memory>
+    ensures { IfOk result (λ answer. (start : Bool) → answer
+        ≡ definition.end_of (reader_at at reader.entry) (definition.Between start) (path_of reader.entry.path) (option_map root_of reader.entry.root)) }
+{
+    let outside = reader.path.depth() == 0;
+    match reader.root {
+        Some(said) if outside => {
+            let complete = says_yes(alloc, said.slots.value(COMPLETE))?;
+            Ok(Ok(Fdt {
+                expires: said.expires,
+                complete,
+                files: FileEntries::from_vec(reader.files),
+            }))
+        }
+        _ => Ok(Err(FdtFault {
+            kind: FdtKind::Syntax,
+            place: at,
+        })),
+    }
+}
+
+/// Whether the value of Complete is given and says yes (RFC 3926 section 3.4.2).
+fn says_yes(alloc: Global, value: Option<&[u8]>) -> Result<bool, Memory>
+    ensures { IfOk result (λ complete. complete ≡ is_complete (value_of value.entry)) }
+{
+    let Some(value) = value else {
+        return Ok(false);
+    };
+    let characters = characters_in(alloc, value)?;
+    let bytes = characters.as_slice();
+    Ok(bytes == b"true".as_slice() || bytes == b"1".as_slice())
+}
