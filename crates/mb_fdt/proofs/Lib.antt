@@ -67,4 +67,5 @@ pub mod SaidLemmas
 pub mod RefusalLemmas
 pub mod TextLemmas
 pub mod StepLemmas
+pub mod RunLemmas
 pub mod WriteLemmas

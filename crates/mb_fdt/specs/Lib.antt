@@ -14,6 +14,7 @@ pub mod EntrySeen
 pub mod SaidSeen
 pub mod CodingSeen
 pub mod ReaderSeen
+pub mod Run
 pub mod Reading
 pub mod Seen
 pub mod Written

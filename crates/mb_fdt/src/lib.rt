@@ -12,6 +12,7 @@ mod prolog;
 mod read;
 mod reader;
 mod root;
+mod run;
 mod said;
 mod slots;
 mod step;

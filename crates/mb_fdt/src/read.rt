@@ -41,11 +41,14 @@ fn read_utf8(alloc: Global, text: &[u8]) -> Result<Result<Fdt, FdtFault>, Memory
 {
     let mut reader = Reader::begin(alloc, text);
     let mut token = Token::Front;
-    for (at, byte) in text.iter().enumerate() {
-        match reader.step(alloc, at, *byte, token)? {
+    let mut at = 0;
+    while at < text.len() {
+        match reader.step(alloc, at, text[at], token)? {
             Ok(next) => token = next,
             Err(fault) => return Ok(Err(fault)),
         }
+        // Most bytes of a long text change nothing but the place, so no step is taken for them.
+        at = reader.behind_run(at + 1, token);
     }
     finish(alloc, text.len(), token, reader)
 }
