@@ -69,3 +69,4 @@ pub mod TextLemmas
 pub mod StepLemmas
 pub mod RunLemmas
 pub mod WriteLemmas
+pub mod DescriptionLemmas

@@ -1,11 +1,11 @@
-ghost use Rattle.std.specs.Prelude.{◌≡◌, ◌&&◌, ◌||◌, IfOk, IfSome, IsUtf8, is_some, is_none, length, unwrap_or, []};
+ghost use Rattle.std.specs.Prelude.{◌≡◌, ◌&&◌, ◌||◌, IfOk, IfSome, IsOk, IsSome, IsUtf8, is_some, is_none};
 ghost use Rattle.mb_geom.specs.Description.{described};
 ghost use Rattle.mb_fdt.specs.Entry.{entry_of, said_by, refusals, first_refusal, unless, parts_of, raptor_of};
 ghost use Rattle.mb_fdt.specs.SaidSeen.{said_of, value_of};
 ghost use Rattle.mb_fdt.specs.EntrySeen as seen;
 ghost use Rattle.mb_fdt.specs.Reader.{root_value, file_value};
 ghost use Rattle.mb_fdt.specs.SlotsSeen.{slots_of};
-ghost use Rattle.mb_fdt.specs.EntrySeen.{IsRead, scheme_by, parts_by};
+ghost use Rattle.mb_fdt.specs.EntrySeen.{IsRead, scheme_by, parts_by, fault_of};
 
 use crate::fdt::FileFault::{BadInfo, BadMd5, BadNumber, LongLocation, NoLocation, NoToi};
 use crate::fdt::{Attr, FileEntry, FileFault};
@@ -26,10 +26,11 @@ const NO_CODE: u8 = 0;
 /// The FEC Encoding ID of Raptor (RFC 5053 section 3.1).
 const RAPTOR: u8 = 1;
 
-/// What the values of the attributes of a File element say, each where it is given and can be read.
-#[derive(Drop)]
+/// What the values of the attributes of a File element say, each where it is given and can be read. Of the location
+/// it is the length alone, so that an element that is refused takes no memory.
+#[derive(Clone, Copy)]
 struct Values {
-    location: Option<Bytes>,
+    location_length: usize,
     toi: Option<u128>,
     content_length: Option<u64>,
     transfer_length: Option<u64>,
@@ -42,30 +43,22 @@ struct Values {
 }
 
 /// What the values say.
-fn values_of(
-    alloc: Global,
-    said: &Said<'_>,
-    root: &RootSays<'_>,
-    file: &Slots<'_>,
-) -> Result<Values, Memory>
-    requires exact { said_of said.now ≡ said_by (root_value (slots_of root.now.slots)) (file_value (slots_of file.now)) }
-    requires text { IfSome said.now.location (λ location. IsUtf8 location.now) }
-    ensures exact { IfOk result (IsRead (said_of said.now)) }
-    ensures text { IfOk result (λ values. IfSome values.location IsUtf8) }
+fn values_of(said: &Said<'_>, root: &RootSays<'_>, file: &Slots<'_>) -> Values
+    requires { said_of said.now ≡ said_by (root_value (slots_of root.now.slots)) (file_value (slots_of file.now)) }
+    ensures { IsRead (said_of said.now) result }
 {
-    let on_file = is_filled(alloc, said.encoding)?;
-    Ok(Values {
-        location: location_in(alloc, said.location)?,
-        toi: toi_in(alloc, said.toi)?,
-        content_length: u64_in(alloc, said.content_length)?,
-        transfer_length: u64_in(alloc, said.transfer_length)?,
-        encoded: on_file || root.coding.encoded,
-        md5: bytes_in(alloc, said.md5)?,
-        encoding_id: u8_over(alloc, file.value(ENCODING_ID), root.coding.encoding_id)?,
-        max_block: u32_over(alloc, file.value(MAX_BLOCK), root.coding.max_block)?,
-        symbol: u16_over(alloc, file.value(SYMBOL), root.coding.symbol)?,
-        info: info_over(alloc, file.value(INFO), root.coding.info)?,
-    })
+    Values {
+        location_length: length_in(said.location),
+        toi: toi_in(said.toi),
+        content_length: u64_in(said.content_length),
+        transfer_length: u64_in(said.transfer_length),
+        encoded: is_filled(said.encoding) || root.coding.encoded,
+        md5: bytes_in(said.md5),
+        encoding_id: u8_over(file.value(ENCODING_ID), root.coding.encoding_id),
+        max_block: u32_over(file.value(MAX_BLOCK), root.coding.max_block),
+        symbol: u16_over(file.value(SYMBOL), root.coding.symbol),
+        info: info_over(file.value(INFO), root.coding.info),
+    }
 }
 
 /// The first fault whose condition holds.
@@ -108,16 +101,6 @@ fn has_scheme(values: &Values) -> bool
     is_id(values, NO_CODE) || is_id(values, RAPTOR)
 }
 
-/// How many bytes the location has, 0 where none is given.
-fn location_length(values: &Values) -> usize
-    ensures { result ≡ length (unwrap_or values.now.location []) }
-{
-    match &values.location {
-        Some(location) => location.len(),
-        None => 0,
-    }
-}
-
 /// Why the element is refused by its attributes, the first reason that holds.
 fn refusal(said: &Said<'_>, values: &Values) -> Option<FileFault>
     requires { IsRead (said_of said.now) values.now }
@@ -128,7 +111,7 @@ fn refusal(said: &Said<'_>, values: &Values) -> Option<FileFault>
     let info = is_bad_where(is_id(values, RAPTOR), said.info, &values.info);
     first_fault(&[
         (said.location.is_none(), NoLocation),
-        (location_length(values) > MAX_LOCATION, LongLocation),
+        (values.location_length > MAX_LOCATION, LongLocation),
         (said.toi.is_none(), NoToi),
         (is_bad(said.toi, &values.toi), BadNumber(Attr::Toi)),
         (
@@ -175,22 +158,11 @@ fn scheme(values: &Values) -> Option<Scheme>
     }
 }
 
-/// The location, and no bytes where none is given.
-fn location_or_empty(alloc: Global, location: Option<Bytes>) -> Bytes
-    ensures { result ≡ unwrap_or location [] }
+/// The parts of the description of the file at this location.
+fn parts(location: Bytes, values: &Values) -> DescParts
+    ensures { result ≡ parts_by location values.now }
 {
-    match location {
-        Some(location) => location,
-        None => Bytes::from_vec(Vec::new(alloc)),
-    }
-}
-
-/// The parts of the description.
-fn parts(alloc: Global, values: Values) -> DescParts
-    ensures { result ≡ parts_by values }
-{
-    let scheme = scheme(&values);
-    let symbol = if has_scheme(&values) {
+    let symbol = if has_scheme(values) {
         values.symbol
     } else {
         None
@@ -200,41 +172,63 @@ fn parts(alloc: Global, values: Values) -> DescParts
         transfer_length: values.transfer_length,
         encoded: values.encoded,
         symbol,
-        scheme,
+        scheme: scheme(values),
         md5: values.md5,
-        location: location_or_empty(alloc, values.location),
+        location,
     }
 }
 
-/// The description, or why there is none.
-fn description(alloc: Global, said: &Said<'_>, values: Values) -> Result<Desc, FileFault>
-    requires read { IsRead (said_of said.now) values }
-    requires text { IfSome values.location IsUtf8 }
-    ensures { result ≡ unless (first_refusal (refusals (said_of said.now))) (described (parts_of (said_of said.now))) }
+/// Why the element has no description, where it has none. Its location isn't needed for that, but for its length.
+fn fault(alloc: Global, said: &Said<'_>, values: &Values) -> Option<FileFault>
+    requires { IsRead (said_of said.now) values.now }
+    ensures { result ≡ fault_of (said_of said.now) }
 {
-    if let Some(fault) = refusal(said, &values) {
-        return Err(fault);
+    if let Some(fault) = refusal(said, values) {
+        return Some(fault);
     }
-    match Desc::new(parts(alloc, values)) {
-        Ok(desc) => Ok(desc),
-        Err(fault) => Err(FileFault::Desc(fault)),
+    let nowhere = Bytes::from_vec(Vec::new(alloc));
+    match Desc::new(parts(nowhere, values)) {
+        Ok(_) => None,
+        Err(fault) => Some(FileFault::Desc(fault)),
+    }
+}
+
+/// The description, or why there is none. The location is copied where there is one alone.
+fn description(
+    alloc: Global,
+    said: &Said<'_>,
+    values: &Values,
+) -> Result<Result<Desc, FileFault>, Memory>
+    requires read { IsRead (said_of said.now) values.now }
+    requires text { IfSome said.now.location (λ location. IsUtf8 location.now) }
+    ensures exact { IfOk result (λ description. description ≡ unless (first_refusal (refusals (said_of said.now))) (described (parts_of (said_of said.now)))) }
+    ensures free { IsSome (fault_of (said_of said.now)) → IsOk result }
+{
+    if let Some(fault) = fault(alloc, said, values) {
+        return Ok(Err(fault));
+    }
+    let location = location_in(alloc, said.location)?;
+    match Desc::new(parts(location, values)) {
+        Ok(desc) => Ok(Ok(desc)),
+        Err(fault) => Ok(Err(FileFault::Desc(fault))),
     }
 }
 
 /// The entry of a File element with these values under a root that says this (RFC 3926 sections 3.4.2 and 5.1.1, TS
-/// 26.346 section 7.2.10).
+/// 26.346 section 7.2.10). Where there is no description, no memory is taken.
 #[tactic(auto, unfolding(crate::specs::Entry::entry_of))]
 pub(crate) fn entry(
     alloc: Global,
     root: &RootSays<'_>,
     file: &Slots<'_>,
 ) -> Result<FileEntry, Memory>
-    ensures { IfOk result (λ entry. entry ≡ entry_of (said_by (root_value (slots_of root.now.slots)) (file_value (slots_of file.now)))) }
+    ensures exact { IfOk result (λ entry. entry ≡ entry_of (said_by (root_value (slots_of root.now.slots)) (file_value (slots_of file.now)))) }
+    ensures free { IsSome (fault_of (said_by (root_value (slots_of root.now.slots)) (file_value (slots_of file.now)))) → IsOk result }
 {
     let said = said_in(&root.slots, file);
-    let values = values_of(alloc, &said, root, file)?;
+    let values = values_of(&said, root, file);
     Ok(FileEntry {
         toi: values.toi,
-        entry: description(alloc, &said, values),
+        entry: description(alloc, &said, &values)?,
     })
 }

@@ -12,7 +12,7 @@ use crate::known::COMPLETE;
 use crate::reader::Reader;
 use crate::token::Token;
 use mb_base::Memory;
-use mb_xml::{characters_in, utf8_place};
+use mb_xml::{says, utf8_place};
 use std::alloc::Global;
 
 /// What the text of an FDT Instance says (RFC 3926 section 3.4.2, as a profile of XML 1.0), or its one fault with
@@ -20,7 +20,7 @@ use std::alloc::Global;
 ///
 /// # Errors
 ///
-/// [`Memory`] where there is no memory for the files, their locations or a value that has references.
+/// [`Memory`] where there is no memory for the files or their locations.
 #[tactic(auto, unfolding(crate::specs::Reader::fdt_of))]
 pub fn read_fdt(alloc: Global, text: &[u8]) -> Result<Result<Fdt, FdtFault>, Memory>
     ensures { IfOk result (λ answer. answer ≡ fdt_of text.now) }
@@ -50,63 +50,53 @@ fn read_utf8(alloc: Global, text: &[u8]) -> Result<Result<Fdt, FdtFault>, Memory
         // Most bytes of a long text change nothing but the place, so no step is taken for them.
         at = reader.behind_run(at + 1, token);
     }
-    finish(alloc, text.len(), token, reader)
+    Ok(finish(text.len(), token, reader))
 }
 
 /// What stands there where the text ends.
 #[tactic(auto, unfolding(crate::specs::Reader::finish))]
-fn finish(
-    alloc: Global,
-    at: usize,
-    token: Token<'_>,
-    reader: Reader<'_>,
-) -> Result<Result<Fdt, FdtFault>, Memory>
+fn finish(at: usize, token: Token<'_>, reader: Reader<'_>) -> Result<Fdt, FdtFault>
     requires { IsPlaced at token reader }
-    ensures { IfOk result (λ answer. answer ≡ definition.finish (Ok (reader_of at token.entry reader.entry))) }
+    ensures { result ≡ definition.finish (Ok (reader_of at token.entry reader.entry)) }
 {
     match token {
-        Token::Between { .. } => whole(alloc, at, reader),
-        Token::Banned { .. } => Ok(Err(FdtFault {
+        Token::Between { .. } => whole(at, reader),
+        Token::Banned { .. } => Err(FdtFault {
             kind: FdtKind::Syntax,
             place: reader.markup + 2,
-        })),
-        _ => Ok(Err(FdtFault {
+        }),
+        _ => Err(FdtFault {
             kind: FdtKind::Syntax,
             place: at,
-        })),
+        }),
     }
 }
 
 /// What stands there where the text ends and nothing is begun.
-fn whole(alloc: Global, at: usize, reader: Reader<'_>) -> Result<Result<Fdt, FdtFault>, Memory>
-    ensures { IfOk result (λ answer. (start : Bool) → answer
-        ≡ definition.end_of (reader_at at reader.entry) (definition.Between start) (path_of reader.entry.path) (option_map root_of reader.entry.root)) }
+fn whole(at: usize, reader: Reader<'_>) -> Result<Fdt, FdtFault>
+    ensures { (start : Bool) → result
+        ≡ definition.end_of (reader_at at reader.entry) (definition.Between start) (path_of reader.entry.path) (option_map root_of reader.entry.root) }
 {
     let outside = reader.path.depth() == 0;
     match reader.root {
-        Some(said) if outside => {
-            let complete = says_yes(alloc, said.slots.value(COMPLETE))?;
-            Ok(Ok(Fdt {
-                expires: said.expires,
-                complete,
-                files: FileEntries::from_vec(reader.files),
-            }))
-        }
-        _ => Ok(Err(FdtFault {
+        Some(said) if outside => Ok(Fdt {
+            expires: said.expires,
+            complete: says_yes(said.slots.value(COMPLETE)),
+            files: FileEntries::from_vec(reader.files),
+        }),
+        _ => Err(FdtFault {
             kind: FdtKind::Syntax,
             place: at,
-        })),
+        }),
     }
 }
 
 /// Whether the value of Complete is given and says yes (RFC 3926 section 3.4.2).
-fn says_yes(alloc: Global, value: Option<&[u8]>) -> Result<bool, Memory>
-    ensures { IfOk result (λ complete. complete ≡ is_complete (value_of value.entry)) }
+fn says_yes(value: Option<&[u8]>) -> bool
+    ensures { result ≡ is_complete (value_of value.entry) }
 {
-    let Some(value) = value else {
-        return Ok(false);
-    };
-    let characters = characters_in(alloc, value)?;
-    let bytes = characters.as_slice();
-    Ok(bytes == b"true".as_slice() || bytes == b"1".as_slice())
+    match value {
+        Some(value) => says(value, b"true") || says(value, b"1"),
+        None => false,
+    }
 }

@@ -9,7 +9,7 @@ ghost use Rattle.mb_fdt.specs.SaidSeen.{said_of, value_of, over};
 use crate::known::*;
 use crate::slots::Slots;
 use mb_base::{Bytes, Memory};
-use mb_xml::{base64_bytes, characters_in, number, replaced};
+use mb_xml::{base64_in, replaced, replaced_length};
 use std::alloc::Global;
 
 /// The values of the attributes that are read for a file, as they stand in the text.
@@ -57,160 +57,139 @@ fn first_of<'a>(file: Option<&'a [u8]>, root: Option<&'a [u8]>) -> Option<&'a [u
 }
 
 /// The number below the limit that a value says, where it is given and says one.
-pub(crate) fn number_in(
-    alloc: Global,
-    value: Option<&[u8]>,
-    limit: u128,
-) -> Result<Option<u128>, Memory>
+pub(crate) fn number_in(value: Option<&[u8]>, limit: u128) -> Option<u128>
     requires { limit ≤ 2 ^ 112 }
-    ensures exact { IfOk result (λ n. n ≡ option_and_then (number_of limit) (value_of value.entry)) }
-    ensures below { IfOk result (λ n. IfSome n (λ n. n < limit)) }
+    ensures exact { result ≡ option_and_then (number_of limit) (value_of value.entry) }
+    ensures below { IfSome result (λ n. n < limit) }
 {
-    let Some(value) = value else {
-        return Ok(None);
-    };
-    let characters = characters_in(alloc, value)?;
-    Ok(number(characters.as_slice(), limit))
+    mb_xml::number_in(value?, limit)
 }
 
 /// The TOI that a value says, where it is given and says one: from 1 to below 2^112.
-pub(crate) fn toi_in(alloc: Global, value: Option<&[u8]>) -> Result<Option<u128>, Memory>
-    ensures { IfOk result (λ toi. toi ≡ option_and_then toi_of (value_of value.entry)) }
+pub(crate) fn toi_in(value: Option<&[u8]>) -> Option<u128>
+    ensures { result ≡ option_and_then toi_of (value_of value.entry) }
 {
-    match number_in(alloc, value, 1 << 112)? {
-        Some(toi) if toi > 0 => Ok(Some(toi)),
-        _ => Ok(None),
+    match number_in(value, 1 << 112) {
+        Some(toi) if toi > 0 => Some(toi),
+        _ => None,
     }
 }
 
-/// The N bytes of which a value is the base64, where it is given and is one.
-pub(crate) fn bytes_in<const N: usize>(
-    alloc: Global,
-    value: Option<&[u8]>,
-) -> Result<Option<[u8; N]>, Memory>
-    ensures { IfOk result (λ bytes. bytes ≡ option_and_then (bytes_of N) (value_of value.entry)) }
+/// The N bytes, 16 at most, of which a value is the base64, where it is given and is one.
+pub(crate) fn bytes_in<const N: usize>(value: Option<&[u8]>) -> Option<[u8; N]>
+    requires { N ≤ 16 }
+    ensures { result ≡ option_and_then (bytes_of N) (value_of value.entry) }
 {
-    let Some(value) = value else {
-        return Ok(None);
-    };
-    let characters = characters_in(alloc, value)?;
-    Ok(base64_bytes(characters.as_slice()))
+    base64_in(value?)
 }
 
 /// Whether a value is given and isn't empty.
-pub(crate) fn is_filled(alloc: Global, value: Option<&[u8]>) -> Result<bool, Memory>
-    ensures { IfOk result (λ filled. filled ≡ nat_lt 0 (length (unwrap_or (value_of value.entry) []))) }
+pub(crate) fn is_filled(value: Option<&[u8]>) -> bool
+    ensures { result ≡ nat_lt 0 (length (unwrap_or (value_of value.entry) [])) }
 {
-    let Some(value) = value else {
-        return Ok(false);
-    };
-    let characters = characters_in(alloc, value)?;
-    Ok(!characters.as_slice().is_empty())
+    match value {
+        Some(value) => mb_xml::is_filled(value),
+        None => false,
+    }
 }
 
 /// The number below 2^64 that a value says, where it is given and says one.
-pub(crate) fn u64_in(alloc: Global, value: Option<&[u8]>) -> Result<Option<u64>, Memory>
-    ensures { IfOk result (λ n. n ≡ option_and_then (number_of (2 ^ 64)) (value_of value.entry)) }
+pub(crate) fn u64_in(value: Option<&[u8]>) -> Option<u64>
+    ensures { result ≡ option_and_then (number_of (2 ^ 64)) (value_of value.entry) }
 {
-    match number_in(alloc, value, 1 << 64)? {
-        Some(n) => Ok(Some(n as u64)),
-        None => Ok(None),
+    match number_in(value, 1 << 64) {
+        Some(n) => Some(n as u64),
+        None => None,
     }
 }
 
 /// The number below 2^32 that a value says, where it is given and says one.
-pub(crate) fn u32_in(alloc: Global, value: Option<&[u8]>) -> Result<Option<u32>, Memory>
-    ensures { IfOk result (λ n. n ≡ option_and_then (number_of (2 ^ 32)) (value_of value.entry)) }
+pub(crate) fn u32_in(value: Option<&[u8]>) -> Option<u32>
+    ensures { result ≡ option_and_then (number_of (2 ^ 32)) (value_of value.entry) }
 {
-    match number_in(alloc, value, 1 << 32)? {
-        Some(n) => Ok(Some(n as u32)),
-        None => Ok(None),
+    match number_in(value, 1 << 32) {
+        Some(n) => Some(n as u32),
+        None => None,
     }
 }
 
 /// The number below 2^16 that a value says, where it is given and says one.
-pub(crate) fn u16_in(alloc: Global, value: Option<&[u8]>) -> Result<Option<u16>, Memory>
-    ensures { IfOk result (λ n. n ≡ option_and_then (number_of (2 ^ 16)) (value_of value.entry)) }
+pub(crate) fn u16_in(value: Option<&[u8]>) -> Option<u16>
+    ensures { result ≡ option_and_then (number_of (2 ^ 16)) (value_of value.entry) }
 {
-    match number_in(alloc, value, 1 << 16)? {
-        Some(n) => Ok(Some(n as u16)),
-        None => Ok(None),
+    match number_in(value, 1 << 16) {
+        Some(n) => Some(n as u16),
+        None => None,
     }
 }
 
 /// The number below 2^8 that a value says, where it is given and says one.
-pub(crate) fn u8_in(alloc: Global, value: Option<&[u8]>) -> Result<Option<u8>, Memory>
-    ensures { IfOk result (λ n. n ≡ option_and_then (number_of (2 ^ 8)) (value_of value.entry)) }
+pub(crate) fn u8_in(value: Option<&[u8]>) -> Option<u8>
+    ensures { result ≡ option_and_then (number_of (2 ^ 8)) (value_of value.entry) }
 {
-    match number_in(alloc, value, 1 << 8)? {
-        Some(n) => Ok(Some(n as u8)),
-        None => Ok(None),
+    match number_in(value, 1 << 8) {
+        Some(n) => Some(n as u8),
+        None => None,
     }
 }
 
-/// The bytes that a value says, where it is given.
-pub(crate) fn location_in(alloc: Global, value: Option<&[u8]>) -> Result<Option<Bytes>, Memory>
-    ensures exact { IfOk result (λ location. location ≡ value_of value.entry) }
-    ensures text { IfSome value.entry (λ v. IsUtf8 v.now) → IfOk result (λ location. IfSome location IsUtf8) }
+/// How many bytes a value says, 0 where none is given.
+pub(crate) fn length_in(value: Option<&[u8]>) -> usize
+    ensures { result ≡ length (unwrap_or (value_of value.entry) []) }
 {
     match value {
-        Some(value) => Ok(Some(replaced(alloc, value)?)),
-        None => Ok(None),
+        Some(value) => replaced_length(value),
+        None => 0,
+    }
+}
+
+/// The bytes that a value says, and none where it isn't given.
+pub(crate) fn location_in(alloc: Global, value: Option<&[u8]>) -> Result<Bytes, Memory>
+    ensures exact { IfOk result (λ location. location ≡ unwrap_or (value_of value.entry) []) }
+    ensures text { IfSome value.entry (λ v. IsUtf8 v.now) → IfOk result IsUtf8 }
+{
+    match value {
+        Some(value) => replaced(alloc, value),
+        None => Ok(Bytes::from_vec(Vec::new(alloc))),
     }
 }
 
 /// The number below 2^8 that a value of a File element says, or what is read of the root where the File has none.
-pub(crate) fn u8_over(
-    alloc: Global,
-    own: Option<&[u8]>,
-    shared: Option<u8>,
-) -> Result<Option<u8>, Memory>
-    ensures { IfOk result (λ n. n ≡ over (number_of (2 ^ 8)) (value_of own.entry) shared) }
+pub(crate) fn u8_over(own: Option<&[u8]>, shared: Option<u8>) -> Option<u8>
+    ensures { result ≡ over (number_of (2 ^ 8)) (value_of own.entry) shared }
 {
     match own {
-        Some(_) => u8_in(alloc, own),
-        None => Ok(shared),
+        Some(_) => u8_in(own),
+        None => shared,
     }
 }
 
 /// The number below 2^16 that a value of a File element says, or what is read of the root where the File has none.
-pub(crate) fn u16_over(
-    alloc: Global,
-    own: Option<&[u8]>,
-    shared: Option<u16>,
-) -> Result<Option<u16>, Memory>
-    ensures { IfOk result (λ n. n ≡ over (number_of (2 ^ 16)) (value_of own.entry) shared) }
+pub(crate) fn u16_over(own: Option<&[u8]>, shared: Option<u16>) -> Option<u16>
+    ensures { result ≡ over (number_of (2 ^ 16)) (value_of own.entry) shared }
 {
     match own {
-        Some(_) => u16_in(alloc, own),
-        None => Ok(shared),
+        Some(_) => u16_in(own),
+        None => shared,
     }
 }
 
 /// The number below 2^32 that a value of a File element says, or what is read of the root where the File has none.
-pub(crate) fn u32_over(
-    alloc: Global,
-    own: Option<&[u8]>,
-    shared: Option<u32>,
-) -> Result<Option<u32>, Memory>
-    ensures { IfOk result (λ n. n ≡ over (number_of (2 ^ 32)) (value_of own.entry) shared) }
+pub(crate) fn u32_over(own: Option<&[u8]>, shared: Option<u32>) -> Option<u32>
+    ensures { result ≡ over (number_of (2 ^ 32)) (value_of own.entry) shared }
 {
     match own {
-        Some(_) => u32_in(alloc, own),
-        None => Ok(shared),
+        Some(_) => u32_in(own),
+        None => shared,
     }
 }
 
 /// The four bytes that a value of a File element says, or what is read of the root where the File has none.
-pub(crate) fn info_over(
-    alloc: Global,
-    own: Option<&[u8]>,
-    shared: Option<[u8; 4]>,
-) -> Result<Option<[u8; 4]>, Memory>
-    ensures { IfOk result (λ bytes. bytes ≡ over (bytes_of 4) (value_of own.entry) shared) }
+pub(crate) fn info_over(own: Option<&[u8]>, shared: Option<[u8; 4]>) -> Option<[u8; 4]>
+    ensures { result ≡ over (bytes_of 4) (value_of own.entry) shared }
 {
     match own {
-        Some(_) => bytes_in(alloc, own),
-        None => Ok(shared),
+        Some(_) => bytes_in(own),
+        None => shared,
     }
 }

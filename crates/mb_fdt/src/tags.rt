@@ -49,25 +49,24 @@ impl<'a> Reader<'a> {
     }
 
     /// The end of the root's tag.
-    fn root_end(&mut self, alloc: Global, empty: bool) -> Result<Next<'a>, Memory>
+    fn root_end(&mut self, empty: bool) -> Next<'a>
         requires { HasRoom self.old }
-        ensures exact { IfOk result (λ next. (at : ℕ) → next_of at next self.new ≡ definition.tag_end (reader_at at self.old) empty []) }
-        ensures placed { IfOk result (λ next. (at : ℕ) → IsWithin at next self.new) }
+        ensures exact { (at : ℕ) → next_of at result self.new ≡ definition.tag_end (reader_at at self.old) empty [] }
+        ensures placed { (at : ℕ) → IsWithin at result self.new }
         ensures text { self.new.text ≡ self.old.text }
     {
         let Some(value) = self.slots.value(EXPIRES) else {
-            return Ok(fault(FdtKind::NoExpires, self.markup));
+            return fault(FdtKind::NoExpires, self.markup);
         };
-        let Some(expires) = number_in(alloc, Some(value), EXPIRES_END)? else {
-            return Ok(fault(FdtKind::BadExpires, self.markup));
+        let Some(expires) = number_in(Some(value), EXPIRES_END) else {
+            return fault(FdtKind::BadExpires, self.markup);
         };
-        let coding = coding_in(alloc, &self.slots)?;
         self.root = Some(RootSays {
             expires: expires as u64,
             slots: self.slots,
-            coding,
+            coding: coding_in(&self.slots),
         });
-        Ok(Ok(self.leave(empty)))
+        Ok(self.leave(empty))
     }
 
     /// The end of the tag of a child of the root.
@@ -92,7 +91,7 @@ impl<'a> Reader<'a> {
         ensures text { self.new.text ≡ self.old.text }
     {
         match self.path.depth() {
-            0 => self.root_end(alloc, empty),
+            0 => Ok(self.root_end(empty)),
             1 => self.child_end(alloc, empty),
             _ => Ok(Ok(self.leave(empty))),
         }

@@ -101,3 +101,30 @@ bytes_some s old new n is written len = bytes_by_some standard s old new n is wr
 pub bytes_none : (s : List ℕ) (n : ℕ) → ((k : ℕ) → decode_slice_of standard s n ≡ Ok k → k ≢ n) → None ≡ bytes_of n s
 unfolding bytes_by bytes_of decoded_of
 bytes_none s n other = bytes_by_none standard s n (decode_of standard s) refl other
+
+-- ---- a value that is too long for n bytes
+
+long_by : (e : GeneralPurpose) (s : List ℕ) (n : ℕ) (outcome : Result (List ℕ) DecodeError) → decode_of e s ≡ outcome → n ≤ 16 → 24 < length s → None ≡ bytes_by e n s
+unfolding bytes_by
+long_by e s n (Err fault) is most long = rw is refl
+long_by e s n (Ok found) is most long =
+    let outcome = decodes_outcome (or_else (lone_of e s) (rest_of e s)) (decoded_bytes_of e s) found is in
+    let groups : ℕ = groups_before_last (length s) in
+    let fronts : length (groups_bytes e.decode_table s groups) ≡ 3 * groups = length-groups_bytes e.decode_table s groups in
+    let many : 6 ≤ groups = omega (arith, long) in
+    let whole : length (decoded_bytes_of e s) ≡ length found = ap length outcome.1 in
+    let differs : length found ≢ n = λ same. absurd (omega (
+      arith,
+      same,
+      most,
+      many,
+      whole,
+      fronts,
+      length-append (groups_bytes e.decode_table s groups) (suffix_bytes e.decode_table e.padding.value (4 * groups) s),
+    )) in
+    let count : (length found == n) ≡ false = ne_eqb (length found) n differs in
+    rw (is, count) refl
+
+pub bytes_long : (s : List ℕ) (n : ℕ) → n ≤ 16 → 24 < length s → None ≡ bytes_of n s
+unfolding bytes_by bytes_of decoded_of
+bytes_long s n most long = long_by standard s n (decode_of standard s) refl most long

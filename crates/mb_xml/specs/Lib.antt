@@ -2,4 +2,5 @@ pub mod Name
 pub mod Reference
 pub mod Value
 pub mod Seen
-pub mod ValueSeen
+pub mod CharactersSeen
+pub mod NumberSeen

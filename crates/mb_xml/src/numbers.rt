@@ -1,11 +1,14 @@
-ghost use Rattle.std.specs.Prelude.{◌≡◌, ℕ, ◌^◌, ◌<◌, ◌≤◌, ◌&&◌, nat_lt, length, take_while};
+ghost use Rattle.std.specs.Prelude.{◌≡◌, ℕ, List, [], ◌∷◌, ◌^◌, ◌<◌, ◌≤◌, ◌&&◌, nat_lt, option_and_then, IfSome};
 ghost use Rattle.std.specs.List.{list_all};
 ghost use Rattle.std.specs.Char.{is_digit};
 ghost use Rattle.std.specs.Str.Parse.{digits_value};
 ghost use Rattle.mb_xml.specs.Value.{number_of, some_if};
-ghost use Rattle.mb_xml.specs.Name as name;
+ghost use Rattle.mb_xml.specs.Reference as reference;
+ghost use Rattle.mb_xml.specs.NumberSeen.{number_with, behind_space, IsBelow};
 
+use crate::characters::CharacterBytes;
 use crate::names::is_space;
+use crate::references::is_plain;
 
 /// The number that the digits write, where it is below the limit.
 pub(crate) fn digits_number(digits: &[u8], radix: u8, limit: u128) -> Option<u128>
@@ -29,43 +32,89 @@ pub(crate) fn digits_number(digits: &[u8], radix: u8, limit: u128) -> Option<u12
     if number < limit { Some(number) } else { None }
 }
 
-/// The number below the limit that the value stands for: one decimal digit or more, with white space (XML 1.0
-/// section 2.3) before and behind. Leading zeros are allowed, a sign isn't.
-pub fn number(value: &[u8], limit: u128) -> Option<u128>
+/// What the bytes of a value so far are of a number.
+#[derive(Clone, Copy)]
+pub(crate) enum NumberRead {
+    /// White space alone.
+    Nothing,
+    /// Digits behind it, which write this number.
+    Digits(u128),
+    /// White space behind these.
+    Whole(u128),
+}
+
+impl NumberRead {
+    /// What it is with white space behind it.
+    fn spaced(self) -> NumberRead
+        ensures { result ≡ behind_space self }
+    {
+        match self {
+            NumberRead::Digits(number) => NumberRead::Whole(number),
+            _ => self,
+        }
+    }
+
+    /// What it is with one byte more, or `None` where no number below the limit goes on so.
+    fn further(self, byte: u8, limit: u128) -> Option<NumberRead>
+        requires limit { limit ≤ 2 ^ 112 }
+        requires below { IsBelow limit self }
+        ensures exact { (bytes : List ℕ) → number_with limit self (byte ∷ bytes) ≡ option_and_then (λ next. number_with limit next bytes) result }
+        ensures below { IfSome result (IsBelow limit) }
+    {
+        if is_space(byte) {
+            return Some(self.spaced());
+        }
+        let digit = u128::from(char::from(byte).to_digit(10)?);
+        let number = match self {
+            NumberRead::Nothing => digit,
+            NumberRead::Digits(number) => number * 10 + digit,
+            NumberRead::Whole(_) => return None,
+        };
+        // Digits behind it don't make a number smaller, so it need not be known from the limit on.
+        if number < limit {
+            Some(NumberRead::Digits(number))
+        } else {
+            None
+        }
+    }
+
+    /// The number, where there is one.
+    fn number(self, limit: u128) -> Option<u128>
+        requires { IsBelow limit self }
+        ensures { result ≡ number_with limit self [] }
+    {
+        match self {
+            NumberRead::Nothing => None,
+            NumberRead::Digits(number) | NumberRead::Whole(number) => Some(number),
+        }
+    }
+}
+
+/// The number below the limit that a value without references stands for.
+fn plain_number(value: &[u8], limit: u128) -> Option<u128>
     requires { limit ≤ 2 ^ 112 }
     ensures { result ≡ number_of limit value.now }
 {
-    let (_, behind_space) = value.split_at(space_count(value));
-    let (digits, behind) = behind_space.split_at(digit_count(behind_space));
-    if digits.is_empty() {
-        return None;
+    let mut read = NumberRead::Nothing;
+    for byte in value {
+        read = read.further(*byte, limit)?;
     }
-    if !are_spaces(behind) {
-        return None;
+    read.number(limit)
+}
+
+/// The number below the limit that the value stands for, its references being replaced (XML 1.0 section 4.4): one
+/// decimal digit or more, with white space (section 2.3) before and behind. Leading zeros are allowed, a sign isn't.
+pub fn number_in(value: &[u8], limit: u128) -> Option<u128>
+    requires { limit ≤ 2 ^ 112 }
+    ensures { result ≡ number_of limit (reference.replaced value.now) }
+{
+    if is_plain(value) {
+        return plain_number(value, limit);
     }
-    digits_number(digits, 10, limit)
-}
-
-/// How many bytes of white space stand at the front.
-fn space_count(bytes: &[u8]) -> usize
-    ensures { result ≡ length (take_while name.is_space bytes.now) }
-{
-    bytes.iter().take_while(|b| is_space(**b)).count()
-}
-
-/// How many decimal digits stand at the front.
-fn digit_count(bytes: &[u8]) -> usize
-    ensures { result ≡ length (take_while (λ b. is_digit b 10) bytes.now) }
-{
-    bytes
-        .iter()
-        .take_while(|b| char::from(**b).is_digit(10))
-        .count()
-}
-
-/// Whether there is white space alone.
-fn are_spaces(bytes: &[u8]) -> bool
-    ensures { result ≡ list_all name.is_space bytes.now }
-{
-    bytes.iter().all(|b| is_space(*b))
+    let mut bytes = CharacterBytes::new(value);
+    let mut read = NumberRead::Nothing;
+    while let Some(byte) = bytes.next() {
+        read = read.further(byte, limit)?;
+    }
+    read.number(limit)
 }

@@ -1,7 +1,8 @@
-ghost use Rattle.std.specs.Prelude.{◌≡◌, ◌≢◌, ℕ, ◌+◌, ◌<◌, ◌≤◌, ◌++◌, [], Some, length, slice_index, vec_len, IfOk, IfSome, IfNone, IsUtf8};
+ghost use Rattle.std.specs.Prelude.{◌≡◌, ◌≢◌, ℕ, ◌<◌, ◌≤◌, length, slice_index, IfOk, IfSome, IfNone, IsTrue, IsUtf8};
 ghost use Rattle.mb_xml.specs.Reference as reference;
 ghost use Rattle.mb_xml.specs.Seen.{radix_of};
 
+use crate::characters::CharacterBytes;
 use crate::inside::{Radix, SCALARS_END, is_character};
 use crate::numbers::digits_number;
 use mb_base::{Bytes, Memory};
@@ -48,39 +49,48 @@ fn character(digits: &[u8], radix: Radix) -> Option<char>
     char::from_u32(number)
 }
 
-/// The value with characters in place of its references. Where one names no character, the character 0 stands for
-/// it. What follows a `&` without a `;` behind it is left out.
+/// Whether the value has no reference, so that its characters are its bytes.
+pub(crate) fn is_plain(value: &[u8]) -> bool
+    ensures { IsTrue result → reference.replaced value.now ≡ value.now }
+{
+    match place_of(value, b'&') {
+        None => true,
+        Some(_) => false,
+    }
+}
+
+/// How many bytes [`replaced`] gives (XML 1.0 section 4.4).
+pub fn replaced_length(value: &[u8]) -> usize
+    ensures { result ≡ length (reference.replaced value.now) }
+{
+    if is_plain(value) {
+        return value.len();
+    }
+    let mut bytes = CharacterBytes::new(value);
+    let mut count = 0;
+    while bytes.next().is_some() {
+        count += 1;
+    }
+    count
+}
+
+/// The value with characters in place of its references (XML 1.0 section 4.4). Where one names no character, the
+/// character 0 stands for it. What follows a `&` without a `;` behind it is left out. It takes memory for these bytes
+/// alone, at once.
 pub fn replaced(alloc: Global, value: &[u8]) -> Result<Bytes, Memory>
     ensures exact { IfOk result (λ bytes. bytes ≡ reference.replaced value.now) }
     ensures short { IfOk result (λ bytes. length bytes ≤ length value.now) }
     ensures text { IsUtf8 value.now → IfOk result (λ bytes. IsUtf8 bytes) }
 {
-    // No character is longer than its reference, so this is all the room that is needed.
-    let mut out = Vec::with_capacity(alloc, value.len())?;
-    let mut rest = value;
-    while let Some(count) = place_of(rest, b'&') {
-        out.extend_from_slice(&rest[..count])?;
-        rest = put_reference(&mut out, &rest[count + 1..])?;
+    if is_plain(value) {
+        return Ok(Bytes::from_vec(value.to_vec(alloc)?));
     }
-    out.extend_from_slice(rest)?;
+    let mut out = Vec::with_capacity(alloc, replaced_length(value))?;
+    let mut bytes = CharacterBytes::new(value);
+    while let Some(byte) = bytes.next() {
+        out.push_reserved(byte);
+    }
     Ok(Bytes::from_vec(out))
-}
-
-/// Appends the character of the reference whose `&` stands before these bytes, and answers what stands behind it.
-fn put_reference<'a>(out: &mut Vec<u8>, bytes: &'a [u8]) -> Result<&'a [u8], Memory>
-    ensures exact { IfOk result (λ rest. out.new.items ++ reference.replaced rest.now
-        ≡ out.old.items ++ reference.replaced_in (Some []) bytes.now) }
-    ensures short { IfOk result (λ rest. vec_len out.new + length rest.now ≤ vec_len out.old + length bytes.now + 1) }
-    ensures fewer { IfOk result (λ rest. length rest.now ≤ length bytes.now) }
-    ensures text { IsUtf8 out.old.items → IsUtf8 bytes.now → IfOk result (λ rest. IsUtf8 out.new.items × IsUtf8 rest.now) }
-{
-    let Some(count) = place_of(bytes, b';') else {
-        return Ok(&[]);
-    };
-    let character = referred(&bytes[..count]).unwrap_or('\0');
-    let mut encoded = [0; 4];
-    out.extend_from_slice(character.encode_utf8(&mut encoded).as_bytes())?;
-    Ok(&bytes[count + 1..])
 }
 
 /// The place of the first such byte, if there is one.

@@ -108,9 +108,14 @@ fn references_are_replaced(rt: HostRuntime) -> Result<(), Memory> {
         (b"caf\xc3\xa9;", b"caf\xc3\xa9;"),
         (b"&nbsp;&#0;&#x110000;&;", b"\0\0\0\0"),
         (b"a&b", b"a"),
+        (b"&", b""),
+        (b"&amp", b""),
     ] {
         let bytes = replaced(rt.alloc(), value)?;
         assert!(rt; bytes.as_slice() == wanted);
+        assert_eq!(rt; replaced_length(value), wanted.len());
+        assert_eq!(rt; is_filled(value), !wanted.is_empty());
+        assert!(rt; says(value, wanted) && !says(value, b"hello"));
     }
     assert_eq!(rt; referred(b"#x20AC"), Some('\u{20ac}'));
     assert_eq!(rt; referred(b"euro"), None);
@@ -138,26 +143,74 @@ fn numbers_are_read_below_their_limit(rt: HostRuntime) -> Result<(), Memory> {
         (b"7.", 8, None),
         (b"\xd9\xa7", 8, None),
     ] {
-        assert_eq!(rt; number(value, u128::from(limit)), wanted);
+        assert_eq!(rt; number_in(value, u128::from(limit)), wanted);
     }
     let lengths = 1 << 64;
-    assert_eq!(rt; number(b"18446744073709551615", lengths), Some(lengths - 1));
-    assert_eq!(rt; number(b"18446744073709551616", lengths), None);
+    assert_eq!(rt;
+        number_in(b"18446744073709551615", lengths),
+        Some(lengths - 1)
+    );
+    assert_eq!(rt; number_in(b"18446744073709551616", lengths), None);
     let objects = 1 << 112;
     assert_eq!(rt;
-        number(b"5192296858534827628530496329220095", objects),
+        number_in(b"5192296858534827628530496329220095", objects),
         Some(objects - 1)
     );
     assert_eq!(rt;
-        number(b"5192296858534827628530496329220096", objects),
+        number_in(b"5192296858534827628530496329220096", objects),
         None
     );
     let mut long = vec![in rt.alloc(); b'0'; 5000]?;
     long.push(b'5').map_err(|_| Memory)?;
-    assert_eq!(rt; number(&long, 6), Some(5));
+    assert_eq!(rt; number_in(&long, 6), Some(5));
     let many = vec![in rt.alloc(); b'9'; 5000]?;
-    assert_eq!(rt; number(&many, objects), None);
+    assert_eq!(rt; number_in(&many, objects), None);
     Ok(())
+}
+
+#[test]
+fn values_are_judged_with_their_references_replaced(rt: HostRuntime) {
+    for (value, wanted) in [
+        (&b"&#49;2"[..], Some(12)),
+        (b"1&#x32;", Some(12)),
+        (b"&#32;&#9;0&#48;7&#x20;", Some(7)),
+        (b" 255 ", Some(255)),
+        (b"25&#54;", None),
+        (b"&#x31;&#x20;&#x32;", None),
+        (b"&#43;7", None),
+        (b"&#x0661;", None),
+        (b"1&amp;", None),
+        (b"1&", Some(1)),
+        (b"&#32;", None),
+        (b"", None),
+    ] {
+        assert_eq!(rt; number_in(value, 256), wanted);
+    }
+    for (value, wanted) in [
+        (&b"AAEBBA=="[..], Some([0, 1, 1, 4])),
+        (b"AAEB&#66;A==", Some([0, 1, 1, 4])),
+        (b"&#65;AEBBA&#x3d;&#x3D;", Some([0, 1, 1, 4])),
+        (b"AAEBBA==&#10;", None),
+        (b"AAEBBA=&#233;", None),
+        (b"AAEBBA==AAEBBA==AAEBBA==A", None),
+        (b"", None),
+    ] {
+        assert_eq!(rt; base64_in(value), wanted);
+    }
+    assert_eq!(rt;
+        base64_in(b"&#x58;UFAKrxLKna5cZ2REBfFkg=&#61;"),
+        base64_bytes::<16>(b"XUFAKrxLKna5cZ2REBfFkg==")
+    );
+    for (value, complete) in [
+        (&b"true"[..], true),
+        (b"&#x74;rue", true),
+        (b"tru&#101;", true),
+        (b"true&#32;", false),
+        (b"tru", false),
+        (b"", false),
+    ] {
+        assert_eq!(rt; says(value, b"true"), complete);
+    }
 }
 
 #[test]

@@ -1,4 +1,4 @@
-use Rattle.std.proofs.Common.{ℕ, ◌||◌, nat_lt, Option, unwrap_or, length, [], List, ap, ◌∙◌}
+use Rattle.std.proofs.Common.{ℕ, ◌||◌, nat_lt, Option, ap, ◌∙◌}
 use Rattle.mb_fdt.specs.Entry.{first_refusal}
 use Rattle.mb_fdt.specs.SaidSeen.{said_of}
 use Rattle.mb_fdt.specs.EntrySeen.{is_id}
@@ -11,7 +11,7 @@ returns c =
     let given = c.args.said.now in
     let s = said_of given in
     let no_location = is_none_value given.location c.is_none.result c.is_none.ensures in
-    let long = ap (λ (n : ℕ). nat_lt 2048 n) (c.location_length.ensures ∙ ap (λ (l : Option (List ℕ)). length (unwrap_or l [])) c.requires.location) in
+    let long = ap (λ (n : ℕ). nat_lt 2048 n) c.requires.location_length in
     let no_toi = is_none_value given.toi c.is_none-2.result c.is_none-2.ensures in
     let toi = bad_is given.toi _ _ _ c.is_bad.ensures c.requires.toi in
     let content = bad_is given.content_length _ _ _ c.is_bad-2.ensures c.requires.content_length in

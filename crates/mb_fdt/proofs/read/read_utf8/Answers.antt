@@ -1,10 +1,7 @@
-use Rattle.std.proofs.Common.{◌≡◌, ℕ, ◌+◌, List, drop, get_or, length, Ok, Err, Result, ap, sym, ◌∙◌, arith}
+use Rattle.std.proofs.Common.{◌≡◌, ℕ, ◌+◌, List, drop, get_or, length, Ok, Err, ap, sym, ◌∙◌, arith}
 use Rattle.std.specs.Borrow.{Bor}
-use Rattle.mb_fdt.specs.declared.fdt.Fdt.{Fdt}
-use Rattle.mb_fdt.specs.declared.fdt.FdtFault.{FdtFault}
 use Rattle.mb_fdt.specs.Reader.{Next, step, steps, begin, finish}
 use Rattle.mb_fdt.specs.ReaderSeen.{reader_of}
-use Rattle.mb_fdt.proofs.SlotLemmas.{if_ok_map}
 use Rattle.mb_fdt.proofs.StepLemmas.{steps_further, fault_found, end_found}
 use Rattle.mb_fdt.proofs.RunLemmas.{steps_behind}
 use Rattle.mb_fdt.proofs.read.read_utf8.Goals as goal
@@ -50,7 +47,4 @@ returns c =
     let end : finish (Ok (reader_of (length text) token reader)) ≡ finish all =
     ap (λ (n : ℕ). finish (Ok (reader_of n token reader))) (sym whole)
     ∙ end_found (reader_of at token reader) text at all (omega (arith, c.loop-at-test.false)) c.loop-at.invariant.same in
-    if_ok_map
-    (λ (answer : Result Fdt FdtFault). answer ≡ finish (Ok (reader_of (length text) token reader)))
-    (λ (answer : Result Fdt FdtFault). answer ≡ finish all)
-    (λ answer given. given ∙ end) c.finish.result c.finish.ensures
+    c.finish.ensures ∙ end
