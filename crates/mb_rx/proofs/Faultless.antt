@@ -13,7 +13,7 @@ use Rattle.mb_rx.specs.declared.cause.Ending.TheVariants.{EndsBy, BreaksAt}
 use Rattle.mb_alc.specs.Packet.{Packet, packet_of}
 use Rattle.mb_alc.specs.declared.fault.PacketFault.{PacketFault}
 use Rattle.mb_rx.specs.declared.drops.Reason.TheVariants as reason
-use Rattle.mb_rx.specs.Receiver.{Receiver, Stepped, no_instance, drop_for, closes, hear_packet, hear_datagram}
+use Rattle.mb_rx.specs.Receiver.{Receiver, Stepped, no_text, drop_for, closes, hear_packet, hear_datagram}
 use Rattle.mb_rx.specs.Run.{Session, after_record, session}
 use Rattle.mb_rx.proofs.Growth.{session-append}
 use Rattle.mb_rx.specs.Receive.{ClosesBy, is_closed, Outputs, Takes, IsEnding, IsEnded, IsBroken, IsRun, IsUncounted, IsWholeTrace, IsCutTrace, Completes, FindsBroken}
@@ -57,7 +57,7 @@ most m records rest all few = let len : length (records ++ rest) ≡ length reco
 datagram-closed : (tsi : ℕ) (r : Receiver) (packet : Result Packet PacketFault) → r.closed ≡ true → (hear_datagram tsi r packet).receiver.closed ≡ true
 datagram-closed tsi r (Err fault) closed = closed
 datagram-closed tsi r (Ok p) closed =
-    let dropped : hear_packet tsi r p ≡ no_instance (drop_for reason.Closed r) = rw closed refl in
+    let dropped : hear_packet tsi r p ≡ no_text (drop_for reason.Closed r) = rw closed refl in
     ap (λ (s : Stepped). s.receiver.closed || closes tsi p) dropped ∙ ap (λ b. b || closes tsi p) closed
 
 records-closed : (tsi : ℕ) (s : Session) (records : List Record) → s.receiver.closed ≡ true → (fold (after_record tsi) s records).receiver.closed ≡ true

@@ -3,7 +3,7 @@ use Rattle.std.proofs.Common.{◌≡◌, ℕ, List, [], ◌∷◌, ◌++◌, Opt
 use Rattle.std.proofs.lemmas.List.Sums.{fold-append}
 use Rattle.mb_base.specs.Broadcast.{Record}
 use Rattle.mb_rx.specs.Receiver.{fresh, step}
-use Rattle.mb_rx.specs.Run.{Event, Line, Known, Session, after_record, session, read_events, hand_out_events, end_events, events_of, Extends}
+use Rattle.mb_rx.specs.Run.{Event, Line, Known, Session, after_record, session, text_events, hand_out_events, end_events, events_of, Extends}
 use Rattle.mb_rx.specs.Lines as line
 use Rattle.mb_rx.specs.declared.cause.Cause.{Cause}
 use Rattle.mb_rx.specs.declared.words.RxWords.{RxWords}
@@ -27,7 +27,7 @@ session-push tsi records heard = session-append tsi records (heard ∷ [])
 
 -- what a record adds to the events
 abbrev pub events_at : ℕ → Session → Record → List Event
-events_at tsi s heard = let stepped = step tsi s.receiver heard in read_events stepped.read ++ hand_out_events stepped.receiver.lives
+events_at tsi s heard = let stepped = step tsi s.receiver heard in text_events stepped.text ++ hand_out_events stepped.receiver.lives
 
 -- records only add events, at the end
 pub events_grow : (tsi : ℕ) (s : Session) (records : List Record) → (later : List Event) × ((fold (after_record tsi) s records).events ≡ s.events ++ later)

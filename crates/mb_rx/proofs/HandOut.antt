@@ -1,5 +1,5 @@
 -- What is handed out after a datagram: nothing where no life waits, and the one life that has heard its file.
-use Rattle.std.proofs.Common.{◌≡◌, ◌<◌, ℕ, zero, suc, nat_lt, ◌||◌, Bool, true, false, cond, List, [], ◌∷◌, map, length, get_or, set, Option, Some, None, refl, sym, ap, ◌∙◌, arith}
+use Rattle.std.proofs.Common.{◌≡◌, ◌<◌, ℕ, zero, suc, ◌||◌, Bool, true, false, cond, List, [], ◌∷◌, map, length, get_or, set, Option, Some, None, Ok, Err, refl, sym, ap, ◌∙◌, arith}
 use Rattle.std.proofs.lemmas.Grind.{common_steps}
 use Rattle.mb_rx.specs.Receiver as receiver
 use Rattle.mb_rx.specs.Run.{Event, Line, Session, after_step, hand_out_events, put_events}
@@ -13,9 +13,10 @@ use Rattle.mb_alc.specs.declared.fault.PacketFault.{PacketFault}
 use Rattle.mb_alc.specs.Packet.{Body}
 use Rattle.mb_alc.specs.Words.{kind_of}
 use Rattle.mb_rx.specs.declared.table.Heard.{Heard}
-use Rattle.mb_rx.specs.declared.table.Heard.TheVariants.{Nothing, Instance, File}
+use Rattle.mb_rx.specs.declared.table.Heard.TheVariants.{Nothing, Instance, BadInstance, File}
 use Rattle.mb_rx.specs.declared.lives.Report.{Report}
 use Rattle.mb_fdt.specs.declared.fdt.Fdt.{Fdt}
+use Rattle.mb_fdt.specs.declared.fdt.FdtFault.{FdtFault}
 use Rattle.mb_rx.specs.Lines as line
 use Rattle.mb_rx.specs.Heard.{IsFileOf, IsHeard}
 use Rattle.mb_rx.proofs.LivesLemmas.{life_of-at, lives_seen-set}
@@ -37,12 +38,12 @@ receiver_of clock closed described lives faults drops =
 
 -- a datagram that is refused or dropped makes no event
 pub refused-made : (clock : ℕ) (closed described : Bool) (lives : List Life) (faults : Faults) (drops : Drops) (fault : PacketFault)
-    → after_step [] (receiver.no_instance (receiver.refuse_for fault (receiver_of clock closed described lives faults drops)))
+    → after_step [] (receiver.no_text (receiver.refuse_for fault (receiver_of clock closed described lives faults drops)))
     ≡ record { receiver = receiver_of clock closed described lives (receiver.counted_fault (kind_of fault) faults) drops; events = [] }
 refused-made clock closed described lives faults drops fault = rw (handed_out-seen lives, hand_out_events-seen lives) refl
 
 pub dropped-made : (clock : ℕ) (closed described : Bool) (lives : List Life) (faults : Faults) (drops : Drops) (reason : Reason)
-    → after_step [] (receiver.no_instance (receiver.drop_for reason (receiver_of clock closed described lives faults drops)))
+    → after_step [] (receiver.no_text (receiver.drop_for reason (receiver_of clock closed described lives faults drops)))
     ≡ record { receiver = receiver_of clock closed described lives faults (receiver.counted reason drops); events = [] }
 dropped-made clock closed described lives faults drops reason = rw (handed_out-seen lives, hand_out_events-seen lives) refl
 
@@ -77,7 +78,7 @@ session_of r events = record { receiver = r; events = events }
 pub hear_symbols-made : (r : receiver.Receiver) (lives new : List Life) (toi place : ℕ) (body : Body)
     → r.lives ≡ lives_seen lives → IsHandedOut lives new toi place
     → receiver.object_reason (receiver.life_of toi (lives_seen lives)) body ≡ None
-    → IsFileOf (after_step [] (receiver.no_instance (receiver.hear_symbols r toi body.payload (receiver.object_reason (receiver.life_of toi r.lives) body))))
+    → IsFileOf (after_step [] (receiver.no_text (receiver.hear_symbols r toi body.payload (receiver.object_reason (receiver.life_of toi r.lives) body))))
     (record r { lives = lives_seen new }) place body.payload
 hear_symbols-made r lives new toi place body seen h none =
     let payload = body.payload in
@@ -94,18 +95,24 @@ hear_symbols-made r lives new toi place body seen h none =
       within = grind (arith, common_steps, set_there, within);
       life = done;
       at = ap (λ (xs : List receiver.Life). get_or xs place done) set_there ∙ get_or-set_same (lives_seen lives) place done done within;
-      made = ap (λ (o : Option Reason). after_step [] (receiver.no_instance (receiver.hear_symbols r toi payload o))) reason
-          ∙ (ap (λ (xs : List receiver.Life). after_step [] (receiver.no_instance (record r { lives = receiver.change_life toi (λ l. record l { heard = Some payload }) xs }))) seen
+      made = ap (λ (o : Option Reason). after_step [] (receiver.no_text (receiver.hear_symbols r toi payload o))) reason
+          ∙ (ap (λ (xs : List receiver.Life). after_step [] (receiver.no_text (record r { lives = receiver.change_life toi (λ l. record l { heard = Some payload }) xs }))) seen
           ∙ (ap (λ (xs : List receiver.Life). session_of (record r { lives = xs }) (hand_out_events heard)) (handed_out-at toi place lives h.life payload h.at undone ∙ ap lives_seen (sym h.now))
           ∙ ap (λ (es : List Event). session_of (record r { lives = lives_seen new }) es) (hand_out_events-at toi place lives h.life payload h.at undone)));
     }
 
 pub hear_text-made : (r : receiver.Receiver) (id : ℕ) (fdt : Fdt) (lives new : List Life) (report : Report)
-    → r.lives ≡ lives_seen lives → r.described ≡ false → nat_lt fdt.expires r.clock ≡ false
+    → r.lives ≡ lives_seen lives → receiver.is_instance_built r.clock fdt ≡ true
     → receiver.with_instance fdt.expires fdt.files (lives_seen lives) ≡ record { lives = lives_seen new; report = report }
-    → after_step [] (receiver.hear_text r id (Some fdt))
+    → after_step [] (receiver.hear_text r id (Ok fdt))
     ≡ record { receiver = record r { described = true; lives = lives_seen new }; events = Line (line.instance id report) ∷ [] }
-hear_text-made r id fdt lives new report seen first in_time done = rw (first, in_time, seen, done, handed_out-seen new, hand_out_events-seen new) refl
+hear_text-made r id fdt lives new report seen built done = rw (built, seen, done, handed_out-seen new, hand_out_events-seen new) refl
+
+-- a text that has a fault changes nothing
+pub bad_text-made : (clock : ℕ) (closed described : Bool) (lives : List Life) (faults : Faults) (drops : Drops) (id : ℕ) (fault : FdtFault)
+    → after_step [] (receiver.hear_text (receiver_of clock closed described lives faults drops) id (Err fault))
+    ≡ record { receiver = receiver_of clock closed described lives faults drops; events = Line (line.bad_instance id fault) ∷ [] }
+bad_text-made clock closed described lives faults drops id fault = rw (handed_out-seen lives, hand_out_events-seen lives) refl
 
 -- A packet with Close Session.
 
@@ -118,6 +125,7 @@ heard-closed : (closing : Bool) (after : Session) (new : receiver.Receiver) (hea
     → IsHeard (closed_by closing after) (record new { closed = new.closed || closing }) heard
 heard-closed closing after new Nothing is = ap (closed_by closing) is
 heard-closed closing after new (Instance id report) is = ap (closed_by closing) is
+heard-closed closing after new (BadInstance id fault) is = ap (closed_by closing) is
 heard-closed closing after new (File place payload) is = record { within = is.within; life = is.life; at = is.at; made = ap (closed_by closing) is.made }
 
 pub heard-packet : (s : receiver.Stepped) (new : receiver.Receiver) (heard : Heard) (closing : Bool) → IsHeard (after_step [] s) new heard

@@ -9,13 +9,18 @@ use Rattle.mb_rx.specs.Lines as line
 use Rattle.mb_rx.specs.Heard.{IsHeard, IsFileOf, HasPlace}
 use Rattle.mb_rx.specs.Seen.{life_seen, lives_seen}
 use Rattle.mb_rx.specs.declared.table.Heard.{Heard}
-use Rattle.mb_rx.specs.declared.table.Heard.TheVariants.{Instance, File}
+use Rattle.mb_rx.specs.declared.table.Heard.TheVariants.{Instance, BadInstance, File}
 use Rattle.mb_rx.specs.declared.lives.Life.{Life}
 use Rattle.mb_rx.specs.declared.lives.Report.{Report}
+use Rattle.mb_fdt.specs.declared.fdt.FdtFault.{FdtFault}
 
 pub heard_instance : (s : Session) (r : receiver.Receiver) (heard : Heard) (id : ℕ) (report : Report) → heard ≡ Instance id report → IsHeard s r heard
     → Line (line.instance id report) ∷ [] ≡ s.events
 heard_instance s r heard id report e h = sym (ap (λ (x : Session). x.events) (subst (IsHeard s r) e h))
+
+pub heard_bad_instance : (s : Session) (r : receiver.Receiver) (heard : Heard) (id : ℕ) (fault : FdtFault) → heard ≡ BadInstance id fault → IsHeard s r heard
+    → Line (line.bad_instance id fault) ∷ [] ≡ s.events
+heard_bad_instance s r heard id fault e h = sym (ap (λ (x : Session). x.events) (subst (IsHeard s r) e h))
 
 -- the code's life at the place is the one that the definitions see there
 seen_there : (lives : List Life) (place : ℕ) (life : Life) (seen : receiver.Life) → place < length lives → life ≡ get_or lives place life

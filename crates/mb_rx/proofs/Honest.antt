@@ -1,22 +1,22 @@
 -- Where the datagrams are honest, what is put is what was sent.
-use Rattle.std.proofs.Common.{◌≡◌, ℕ, ◌-◌, ◌≤◌, ◌==◌, ◌&&◌, ◌||◌, not, nat_lt, max, unwrap_or, Bool, true, false, cond, List, [], ◌∷◌, ◌++◌, length, take, replicate, Option, Some, None, is_some, Result, Ok, Err, fold, filter, map, flat_map, refl, sym, ap, ◌∙◌, arith, append-nil}
-use Rattle.std.specs.List.{AllByRecursion}
+use Rattle.std.proofs.Common.{◌≡◌, ℕ, ◌-◌, ◌≤◌, ◌==◌, ◌&&◌, ◌||◌, not, nat_lt, nat_le, is_none, max, unwrap_or, Bool, true, false, cond, List, [], ◌∷◌, ◌++◌, length, take, replicate, Option, Some, None, is_some, Result, Ok, Err, fold, filter, map, flat_map, refl, sym, ap, ◌∙◌, arith, append-nil}
+use Rattle.std.specs.List.{AllByRecursion, list_all}
 use Rattle.std.proofs.lemmas.Bool.{eqb-true}
+use Rattle.std.proofs.lemmas.Grind.{common_steps}
 use Rattle.std.proofs.lemmas.List.{take_all, take_at}
 use Rattle.mb_base.specs.Broadcast.{Record}
 use Rattle.mb_geom.specs.Description.{Description, same_description}
 use Rattle.mb_fdt.specs.declared.fdt.Fdt.{Fdt}
 use Rattle.mb_fdt.specs.declared.fdt.FileEntry.{FileEntry}
 use Rattle.mb_fdt.specs.declared.fdt.FileFault.{FileFault}
-use Rattle.mb_fdt.specs.Reading.{instance_of}
-use Rattle.mb_fdt.specs.Written.{IsSmallFile, IsSmallEntry}
-use Rattle.mb_fdt.proofs.Law.{instance_takes}
+use Rattle.mb_fdt.specs.declared.fdt.FdtFault.{FdtFault}
+use Rattle.mb_fdt.specs.Reader.{fdt_of}
 use Rattle.mb_alc.specs.Packet.{Packet, Body, packet_of}
 use Rattle.mb_alc.specs.Words.{kind_word, kinds}
 use Rattle.mb_alc.specs.declared.packet.Fti.{Fti}
 use Rattle.mb_alc.specs.declared.fault.PacketFault.{PacketFault}
 use Rattle.mb_rx.specs.Form.{Form, Text, Symbols, form_by, form_with}
-use Rattle.mb_rx.specs.Receiver.{Life, Receiver, Stepped, Described, fresh, drop_for, life_of, change_life, is_full, start_life, with_description, with_entry, after_entry, empty_report, with_instance, hear_text, object_reason, hear_symbols, hear_form, hear_in_session, hear_datagram, no_instance, step, is_ready, handed_out}
+use Rattle.mb_rx.specs.Receiver.{Life, Receiver, Stepped, Described, fresh, drop_for, life_of, change_life, is_full, start_life, with_description, with_entry, after_entry, empty_report, with_instance, is_no_code, is_built, is_received, is_instance_built, Instance, hear_text, hear_fdt, object_reason, hear_symbols, hear_form, hear_in_session, hear_datagram, no_text, step, is_ready, handed_out}
 use Rattle.mb_rx.specs.Run.{Event, Line, Session, after_record, session, count_line, fault_count, fault_lines, drop_count, drop_lines, reasons, incomplete_lines, end_events, file_of, Known}
 use Rattle.mb_rx.specs.Lines as line
 use Rattle.mb_rx.specs.SentSet.{SentSet, SentFile, IsSentEntry, IsSentText, IsHonestForm, IsHonestPacket, IsHonest, IsSentFile, symbol_of}
@@ -141,9 +141,25 @@ all-change_life P toi change (first ∷ lives) keeps p =
 
 -- The entries of an honest instance.
 
+-- two tests that hold
+both : (a b : Bool) → (a && b) ≡ true → (a ≡ true) × (b ≡ true)
+both true true h = (refl, refl)
+both true false h = absurd cc
+both false b h = absurd cc
+
+at_most : (a b : ℕ) → nat_le a b ≡ true → a ≤ b
+at_most a b h = grind (arith, common_steps)
+
+-- a file that is received has one symbol
+one_symbol : (d : Description) → is_built d ≡ true → d.length ≤ d.symbol
+one_symbol d h =
+    let plain = both (is_no_code d.scheme) (is_none d.md5 && (nat_lt 0 d.length && nat_le d.length d.symbol)) h in
+    let sized = both (is_none d.md5) (nat_lt 0 d.length && nat_le d.length d.symbol) plain.1 in
+    at_most d.length d.symbol (both (nat_lt 0 d.length) (nat_le d.length d.symbol) sized.1).1
+
 -- a good entry: the life that it starts is that of a sent file, and one that it prolongs keeps its file
 keeps_description : (sent : SentSet) (expires toi : ℕ) (d : Description) (lives : List Life) (found : Option Life)
-    → IsSentEntry sent.files (Some toi) (Ok d) → IsSmallFile toi d → AreSent sent lives
+    → IsSentEntry sent.files (Some toi) (Ok d) → is_built d ≡ true → AreSent sent lives
     → AreSent sent (with_description expires toi d found lives).0
 keeps_description sent expires toi d lives (Some life) entry small p =
     of_either (λ (r : List Life × Entered). AreSent sent r.0) (same_description life.desc d)
@@ -156,11 +172,11 @@ keeps_description sent expires toi d lives None entry small p =
     (lives, Full) (lives ++ start_life expires toi d ∷ [], Started)
     (λ _. p)
     (λ _. all-append (IsSentLife sent) lives (start_life expires toi d ∷ []) p
-    (record { bytes = entry.0; known = entry.1; one_symbol = small.one_symbol; heard = λ payload e. cc }, tt))
+    (record { bytes = entry.0; known = entry.1; one_symbol = one_symbol d small; heard = λ payload e. cc }, tt))
 
 -- one entry
 keeps_entry : (sent : SentSet) (expires : ℕ) (lives : List Life) (toi : Option ℕ) (entry : Result Description FileFault)
-    → IsSentEntry sent.files toi entry → IsSmallEntry toi entry → AreSent sent lives
+    → IsSentEntry sent.files toi entry → is_received entry ≡ true → AreSent sent lives
     → AreSent sent (with_entry expires lives toi entry).0
 unfolding with_entry
 keeps_entry sent expires lives (Some toi) (Ok d) is small p = keeps_description sent expires toi d lives (life_of toi lives) is small p
@@ -169,25 +185,34 @@ keeps_entry sent expires lives None entry is small p = p
 
 -- all of the entries
 keeps_entries : (sent : SentSet) (expires : ℕ) (s : Described) (files : List FileEntry)
-    → AllByRecursion (λ e. IsSentEntry sent.files e.toi e.entry) files → AllByRecursion (λ e. IsSmallEntry e.toi e.entry) files
+    → AllByRecursion (λ e. IsSentEntry sent.files e.toi e.entry) files → list_all (λ e. is_received e.entry) files ≡ true
     → AreSent sent s.lives → AreSent sent (fold (after_entry expires) s files).lives
 keeps_entries sent expires s [] are small p = p
 keeps_entries sent expires s (e ∷ files) are small p =
-    keeps_entries sent expires (after_entry expires s e) files are.1 small.1 (keeps_entry sent expires s.lives e.toi e.entry are.0 small.0 p)
+    let first = both (is_received e.entry) (list_all (λ x. is_received x.entry) files) small in
+    keeps_entries sent expires (after_entry expires s e) files are.1 first.1 (keeps_entry sent expires s.lives e.toi e.entry are.0 first.0 p)
 
--- the packet's text is the one that was sent
-keeps_text : (sent : SentSet) (r : Receiver) (id : ℕ) (fti : Option Fti) (text : List ℕ) (fdt : Option Fdt)
-    → IsSentText sent id fti text → instance_of text ≡ fdt → AreSent sent r.lives → AreSent sent (hear_text r id fdt).receiver.lives
-keeps_text sent r id fti text None is e p = p
-keeps_text sent r id fti text (Some fdt) is e p =
-    let reads : instance_of is.of.text ≡ Some fdt = ap instance_of (sym is.same_text) ∙ e in
+-- the instance that the packet's text is was sent
+keeps_text : (sent : SentSet) (r : Receiver) (id : ℕ) (fti : Option Fti) (text : List ℕ) (said : Result Fdt FdtFault)
+    → IsSentText sent id fti text → fdt_of text ≡ said → AreSent sent r.lives → AreSent sent (hear_text r id said).receiver.lives
+keeps_text sent r id fti text (Err fault) is e p = p
+keeps_text sent r id fti text (Ok fdt) is e p =
+    let reads : fdt_of is.of.text ≡ Ok fdt = ap fdt_of (sym is.same_text) ∙ e in
     let entered = with_instance fdt.expires fdt.files r.lives in
-    of_either (λ (stepped : Stepped). AreSent sent stepped.receiver.lives) (r.described || nat_lt fdt.expires r.clock)
-    (no_instance (drop_for NotBuilt r))
-    (record { receiver = record r { described = true; lives = entered.lives }; read = Some (id, entered.report) })
+    of_either (λ (stepped : Stepped). AreSent sent stepped.receiver.lives) (is_instance_built r.clock fdt)
+    (record { receiver = record r { described = true; lives = entered.lives }; text = Some (Instance id entered.report) })
+    (no_text (drop_for NotBuilt r))
+    (λ built. keeps_entries sent fdt.expires (record { lives = r.lives; report = empty_report }) fdt.files
+    (sent.entries id is.of fdt is.known reads)
+    (both (nat_le r.clock fdt.expires) (list_all (λ e. is_received e.entry) fdt.files) built).1 p)
     (λ _. p)
-    (λ _. keeps_entries sent fdt.expires (record { lives = r.lives; report = empty_report }) fdt.files
-    (sent.entries id is.of fdt is.known reads) (instance_takes text fdt e).each p)
+
+keeps_fdt : (sent : SentSet) (r : Receiver) (id : ℕ) (fti : Option Fti) (text : List ℕ)
+    → IsSentText sent id fti text → AreSent sent r.lives → AreSent sent (hear_fdt r id text).receiver.lives
+keeps_fdt sent r id fti text is p =
+    of_either (λ (stepped : Stepped). AreSent sent stepped.receiver.lives) r.described
+    (no_text (drop_for NotBuilt r)) (hear_text r id (fdt_of text))
+    (λ _. p) (λ _. keeps_text sent r id fti text (fdt_of text) is refl p)
 
 -- A symbol.
 
@@ -253,7 +278,7 @@ keeps_object sent r toi body (Some life) honest e p =
 keeps_form : (sent : SentSet) (r : Receiver) (fti : Option Fti) (form : Option Form) → ((f : Form) → form ≡ Some f → IsHonestForm sent fti f)
     → AreSent sent r.lives → AreSent sent (hear_form r form).receiver.lives
 keeps_form sent r fti None honest h = h
-keeps_form sent r fti (Some (Text id text)) honest h = keeps_text sent r id fti text (instance_of text) (honest (Text id text) refl) refl h
+keeps_form sent r fti (Some (Text id text)) honest h = keeps_fdt sent r id fti text (honest (Text id text) refl) h
 keeps_form sent r fti (Some (Symbols toi body)) honest h = keeps_object sent r toi body (life_of toi r.lives) (honest (Symbols toi body) refl) refl h
 
 -- an honest packet of the session
@@ -271,10 +296,10 @@ keeps_datagram : (sent : SentSet) (tsi : ℕ) (r : Receiver) (packet : Result Pa
 keeps_datagram sent tsi r (Err fault) honest h = h
 keeps_datagram sent tsi r (Ok p) honest h =
     let Keeps : Stepped → Type 0 = λ stepped. AreSent sent stepped.receiver.lives in
-    of_either Keeps r.closed (no_instance (drop_for Closed r))
-    (cond (p.lct.tsi == tsi) (hear_in_session r p p.lct.toi p.body) (no_instance (drop_for OtherSession r)))
+    of_either Keeps r.closed (no_text (drop_for Closed r))
+    (cond (p.lct.tsi == tsi) (hear_in_session r p p.lct.toi p.body) (no_text (drop_for OtherSession r)))
     (λ _. h)
-    (λ _. of_either Keeps (p.lct.tsi == tsi) (hear_in_session r p p.lct.toi p.body) (no_instance (drop_for OtherSession r))
+    (λ _. of_either Keeps (p.lct.tsi == tsi) (hear_in_session r p p.lct.toi p.body) (no_text (drop_for OtherSession r))
     (λ is. keeps_in_session sent r p p.lct.toi p.body (honest p refl (eqb-true p.lct.tsi tsi is)) h)
     (λ _. h))
 

@@ -4,19 +4,19 @@ use Rattle.std.specs.List.{Contains}
 use Rattle.std.proofs.lemmas.List.Elements.{Contains-append_left, Contains-append_right, Contains-append_cases}
 use Rattle.mb_base.specs.Broadcast.{Record}
 use Rattle.mb_base.specs.Files.{File}
-use Rattle.mb_rx.specs.Receiver.{Life, is_ready, step}
-use Rattle.mb_rx.specs.Run.{Event, Session, after_record, session, read_events, file_of, put_events, hand_out_events}
-use Rattle.mb_rx.specs.declared.lives.Report.{Report}
+use Rattle.mb_rx.specs.Receiver.{TextOutcome, Instance, BadInstance, Life, is_ready, step}
+use Rattle.mb_rx.specs.Run.{Event, Session, after_record, session, text_events, file_of, put_events, hand_out_events}
 use Rattle.mb_rx.specs.declared.words.RxWords.{RxWords}
 use Rattle.mb_rx.specs.declared.cause.Ending.{Ending}
 use Rattle.mb_rx.specs.Receive.{puts_in, PutsEachReady, events_by}
 use Rattle.mb_rx.proofs.Making.{puts_in-append}
 use Rattle.mb_rx.proofs.Growth.{session-append, events_at, events_grow, closing_events, events_by-session}
 
--- an instance that was read puts nothing
-pub puts_in-read : (read : Option (ℕ × Report)) (events : List Event) → puts_in (read_events read ++ events) ≡ puts_in events
-puts_in-read None events = refl
-puts_in-read (Some read) events = refl
+-- what became of a text puts nothing
+pub puts_in-text : (text : Option TextOutcome) (events : List Event) → puts_in (text_events text ++ events) ≡ puts_in events
+puts_in-text None events = refl
+puts_in-text (Some (Instance id report)) events = refl
+puts_in-text (Some (BadInstance id fault)) events = refl
 
 -- what is handed out is put: the files of the ready lives
 pub puts_in-hand_out : (lives : List Life) → puts_in (hand_out_events lives) ≡ map file_of (filter is_ready lives)
@@ -31,7 +31,7 @@ pub puts_in-record : (tsi : ℕ) (s : Session) (heard : Record)
     → puts_in (events_at tsi s heard) ≡ map file_of (filter is_ready (step tsi s.receiver heard).receiver.lives)
 puts_in-record tsi s heard =
     let stepped = step tsi s.receiver heard in
-    puts_in-read stepped.read (hand_out_events stepped.receiver.lives) ∙ puts_in-hand_out stepped.receiver.lives
+    puts_in-text stepped.text (hand_out_events stepped.receiver.lives) ∙ puts_in-hand_out stepped.receiver.lives
 
 -- the empty list has no element
 no_element : (life : Life) → Contains [] life → ⊥

@@ -1,5 +1,8 @@
 -- The lines that the receiver prints. Each ends with a line feed, numbers are decimal without leading zeros.
 use Rattle.std.specs.Prelude.{ℕ, ◌/◌, ◌%◌, ◌==◌, ◌+◌, ◌||◌, nat_lt, if◌then◌else◌, List, [], ◌∷◌, ◌++◌, flat_map, codes, decimal}
+use Rattle.mb_fdt.specs.declared.fdt.FdtFault.{FdtFault}
+use Rattle.mb_fdt.specs.declared.fdt.FdtKind.{FdtKind}
+use Rattle.mb_fdt.specs.declared.fdt.FdtKind.TheVariants.{NotUtf8, Syntax, Forbidden, Depth, NoExpires, BadExpires, RepeatedAttribute, TooManyFiles}
 use Rattle.mb_rx.specs.declared.cause.Cause.{Cause}
 use Rattle.mb_rx.specs.declared.cause.Cause.TheVariants.{Quiet, Ended, Closed, Limit}
 use Rattle.mb_rx.specs.declared.lives.Report.{Report}
@@ -30,6 +33,21 @@ others r = codes "conflicting " ++ (decimal r.conflicting ++ (codes " refused " 
 abbrev pub instance : ℕ → Report → List ℕ
 instance id r = codes "fdt " ++ (decimal id ++ (codes " started " ++ (decimal r.started
     ++ (codes " prolonged " ++ (decimal r.prolonged ++ (codes " " ++ (others r ++ codes "\n")))))))
+
+-- the kinds of fault of a text, as they are numbered in its line
+abbrev pub fault_number : FdtKind → ℕ
+fault_number NotUtf8 = 1
+fault_number Syntax = 2
+fault_number Forbidden = 3
+fault_number Depth = 4
+fault_number NoExpires = 5
+fault_number BadExpires = 6
+fault_number RepeatedAttribute = 7
+fault_number TooManyFiles = 8
+
+abbrev pub bad_instance : ℕ → FdtFault → List ℕ
+bad_instance id fault = codes "fdt " ++ (decimal id ++ (codes " fault " ++ (decimal (fault_number fault.kind)
+    ++ (codes " at " ++ (decimal fault.place ++ codes "\n")))))
 
 abbrev pub stored : ℕ → ℕ → List ℕ → List ℕ
 stored toi len location = codes "stored " ++ (decimal toi ++ (codes " " ++ (decimal len ++ (codes " " ++ (location_text location ++ codes "\n")))))

@@ -1,11 +1,15 @@
 -- The receiver as a machine: its state, and what a datagram does to it.
-use Rattle.std.specs.Prelude.{ℕ, ◌+◌, ◌-◌, ◌^◌, ◌==◌, ◌||◌, ◌&&◌, unwrap_or, Bool, true, false, not, min, max, nat_lt, if◌then◌else◌, List, [], ◌∷◌, ◌++◌, length, fold, sum_by, find, Option, Some, None, is_some, Result, Ok, Err}
+use Rattle.std.specs.Prelude.{ℕ, ◌+◌, ◌-◌, ◌^◌, ◌==◌, ◌||◌, ◌&&◌, unwrap_or, Bool, true, false, not, min, max, nat_lt, nat_le, if◌then◌else◌, List, [], ◌∷◌, ◌++◌, length, fold, sum_by, find, Option, Some, None, is_some, is_none, Result, Ok, Err}
+use Rattle.std.specs.List.{list_all}
 use Rattle.mb_base.specs.Broadcast.{Record}
 use Rattle.mb_geom.specs.Description.{Description, plain, equations, same_description}
+use Rattle.mb_geom.specs.declared.desc.Scheme.{Scheme}
+use Rattle.mb_geom.specs.declared.desc.Scheme.TheVariants.{NoCode, Raptor}
 use Rattle.mb_fdt.specs.declared.fdt.Fdt.{Fdt}
 use Rattle.mb_fdt.specs.declared.fdt.FileEntry.{FileEntry}
 use Rattle.mb_fdt.specs.declared.fdt.FileFault.{FileFault}
-use Rattle.mb_fdt.specs.Reading.{instance_of}
+use Rattle.mb_fdt.specs.declared.fdt.FdtFault.{FdtFault}
+use Rattle.mb_fdt.specs.Reader.{fdt_of}
 use Rattle.mb_alc.specs.Packet.{Packet, Body, packet_of}
 use Rattle.mb_alc.specs.Words.{kind_of}
 use Rattle.mb_alc.specs.declared.fault.PacketFault.{PacketFault}
@@ -161,21 +165,48 @@ with_instance expires files lives = fold (after_entry expires) (record { lives =
 
 -- What a packet of the session does.
 
--- a receiver, and the instance's ID and report where one was read
+-- what became of the text of an instance, under its ID: it was read, or it has a fault
+pub data TextOutcome : Type 0 where
+  Instance : (id : ℕ) (report : Report) → TextOutcome
+  BadInstance : (id : ℕ) (fault : FdtFault) → TextOutcome
+
+-- a receiver, and what became of a text where one was looked at
 pub record Stepped : Type 0 where
   pub receiver : Receiver
-  pub read : Option (ℕ × Report)
+  pub text : Option TextOutcome
 
-abbrev pub no_instance : Receiver → Stepped
-no_instance r = record { receiver = r; read = None }
+abbrev pub no_text : Receiver → Stepped
+no_text r = record { receiver = r; text = None }
 
--- The text of an instance describes files where none did before, it is one, and it hasn't expired.
-abbrev pub hear_text : Receiver → ℕ → Option Fdt → Stepped
-hear_text r id None = no_instance (drop_for NotBuilt r)
-hear_text r id (Some fdt) =
-    if r.described || nat_lt fdt.expires r.clock then no_instance (drop_for NotBuilt r)
-    else let s = with_instance fdt.expires fdt.files r.lives in
-    record { receiver = record r { described = true; lives = s.lives }; read = Some (id, s.report) }
+abbrev pub is_no_code : Scheme → Bool
+is_no_code (NoCode max_block) = true
+is_no_code (Raptor z n al) = false
+
+-- The files that are received today: of one symbol, under Compact No-Code, without MD5.
+abbrev pub is_built : Description → Bool
+is_built d = is_no_code d.scheme && (is_none d.md5 && (nat_lt 0 d.length && nat_le d.length d.symbol))
+
+-- an entry that gives no description leaves the others
+abbrev pub is_received : Result Description FileFault → Bool
+is_received (Ok d) = is_built d
+is_received (Err fault) = true
+
+-- An instance that is read hasn't expired, and all of its files are received.
+abbrev pub is_instance_built : ℕ → Fdt → Bool
+is_instance_built clock fdt = nat_le clock fdt.expires && list_all (λ e. is_received e.entry) fdt.files
+
+-- what the text says, or its fault; a fault leaves room for another text
+abbrev pub hear_text : Receiver → ℕ → Result Fdt FdtFault → Stepped
+hear_text r id (Err fault) = record { receiver = r; text = Some (BadInstance id fault) }
+hear_text r id (Ok fdt) =
+    if is_instance_built r.clock fdt
+    then (let s = with_instance fdt.expires fdt.files r.lives in
+    record { receiver = record r { described = true; lives = s.lives }; text = Some (Instance id s.report) })
+    else no_text (drop_for NotBuilt r)
+
+-- no text is looked at once an instance was read
+abbrev pub hear_fdt : Receiver → ℕ → List ℕ → Stepped
+hear_fdt r id text = if r.described then no_text (drop_for NotBuilt r) else hear_text r id (fdt_of text)
 
 -- the first reason why symbols of an object are dropped
 abbrev pub object_reason : Option Life → Body → Option Reason
@@ -191,34 +222,34 @@ hear_symbols r toi payload None = record r { lives = change_life toi (λ life. r
 
 -- what a packet brings
 abbrev pub hear_form : Receiver → Option Form → Stepped
-hear_form r None = no_instance (drop_for NotBuilt r)
-hear_form r (Some (Text id text)) = hear_text r id (instance_of text)
-hear_form r (Some (Symbols toi body)) = no_instance (hear_symbols r toi body.payload (object_reason (life_of toi r.lives) body))
+hear_form r None = no_text (drop_for NotBuilt r)
+hear_form r (Some (Text id text)) = hear_fdt r id text
+hear_form r (Some (Symbols toi body)) = no_text (hear_symbols r toi body.payload (object_reason (life_of toi r.lives) body))
 
 -- a packet of the session, by its TOI and its body
 abbrev pub hear_in_session : Receiver → Packet → Option ℕ → Option Body → Stepped
-hear_in_session r p None body = no_instance (drop_for NoToi r)
-hear_in_session r p (Some toi) None = no_instance (drop_for NoBody r)
+hear_in_session r p None body = no_text (drop_for NoToi r)
+hear_in_session r p (Some toi) None = no_text (drop_for NoBody r)
 hear_in_session r p (Some toi) (Some body) = hear_form r (form_with p.lct.cp p.exts toi body)
 
 -- a packet is dropped where the session is closed, or where it is of another session
 abbrev pub hear_packet : ℕ → Receiver → Packet → Stepped
 hear_packet tsi r p =
-    if r.closed then no_instance (drop_for Closed r)
+    if r.closed then no_text (drop_for Closed r)
     else if p.lct.tsi == tsi then hear_in_session r p p.lct.toi p.body
-    else no_instance (drop_for OtherSession r)
+    else no_text (drop_for OtherSession r)
 
 -- a packet of the session with Close Session closes it, whatever became of the packet
 abbrev pub closes : ℕ → Packet → Bool
 closes tsi p = (p.lct.tsi == tsi) && p.lct.close_session
 
 abbrev pub close_if : Bool → Stepped → Stepped
-close_if closing s = record { receiver = record s.receiver { closed = s.receiver.closed || closing }; read = s.read }
+close_if closing s = record { receiver = record s.receiver { closed = s.receiver.closed || closing }; text = s.text }
 
 -- what a datagram is
 abbrev pub hear_datagram : ℕ → Receiver → Result Packet PacketFault → Stepped
 hear_datagram tsi r (Ok p) = close_if (closes tsi p) (hear_packet tsi r p)
-hear_datagram tsi r (Err fault) = no_instance (refuse_for fault r)
+hear_datagram tsi r (Err fault) = no_text (refuse_for fault r)
 
 -- one step of the receiver of a session: the clock moves, and the datagram is heard or dropped
 abbrev pub step : ℕ → Receiver → Record → Stepped

@@ -3,9 +3,8 @@ use Rattle.std.specs.Prelude.{◌≡◌, ℕ, ◌==◌, Bool, not, List, [], ◌
 use Rattle.std.specs.List.{list_all}
 use Rattle.mb_base.specs.Files.{File}
 use Rattle.mb_base.specs.Broadcast.{Record}
-use Rattle.mb_rx.specs.Receiver.{Receiver, Stepped, Life, fresh, step, is_ready, bytes_of, handed_out}
+use Rattle.mb_rx.specs.Receiver.{Receiver, TextOutcome, Instance, BadInstance, Stepped, Life, fresh, step, is_ready, bytes_of, handed_out}
 use Rattle.mb_rx.specs.Lines as line
-use Rattle.mb_rx.specs.declared.lives.Report.{Report}
 use Rattle.mb_alc.specs.Words.{kind_word, kinds}
 use Rattle.mb_alc.specs.declared.fault.FaultKind.{FaultKind}
 use Rattle.mb_alc.specs.declared.fault.FaultKind.TheVariants as kind
@@ -50,9 +49,10 @@ pub record Session : Type 0 where
   pub receiver : Receiver
   pub events : List Event
 
-abbrev pub read_events : Option (ℕ × Report) → List Event
-read_events None = []
-read_events (Some read) = Line (line.instance read.0 read.1) ∷ []
+abbrev pub text_events : Option TextOutcome → List Event
+text_events None = []
+text_events (Some (Instance id report)) = Line (line.instance id report) ∷ []
+text_events (Some (BadInstance id fault)) = Line (line.bad_instance id fault) ∷ []
 
 -- the file of a ready life, at its description's location
 abbrev pub file_of : Life → File
@@ -68,7 +68,7 @@ hand_out_events lives = flat_map put_events (filter is_ready lives)
 abbrev pub after_step : List Event → Stepped → Session
 after_step events s = record {
   receiver = record s.receiver { lives = map handed_out s.receiver.lives };
-  events = events ++ (read_events s.read ++ hand_out_events s.receiver.lives);
+  events = events ++ (text_events s.text ++ hand_out_events s.receiver.lives);
 }
 
 abbrev pub after_record : ℕ → Session → Record → Session

@@ -6,7 +6,7 @@ use Rattle.mb_base.specs.Files.{File}
 use Rattle.mb_geom.specs.Description.{Description}
 use Rattle.mb_fdt.specs.declared.fdt.Fdt.{Fdt}
 use Rattle.mb_fdt.specs.declared.fdt.FileFault.{FileFault}
-use Rattle.mb_fdt.specs.Reading.{instance_of}
+use Rattle.mb_fdt.specs.Reader.{fdt_of}
 use Rattle.mb_alc.specs.Packet.{Packet, packet_of}
 use Rattle.mb_alc.specs.declared.packet.Fti.{Fti}
 use Rattle.mb_rx.specs.Form.{Form, Text, Symbols, form_of}
@@ -34,7 +34,7 @@ pub record SentSet : Type 0 where
   -- a file has as many bytes as its description says
   pub lengths : (toi : ℕ) (file : SentFile) → files toi ≡ Some file → length file.bytes ≡ file.desc.length
   -- what a text describes is sent, under that very description
-  pub entries : (id : ℕ) (sent : SentText) (fdt : Fdt) → texts id ≡ Some sent → instance_of sent.text ≡ Some fdt
+  pub entries : (id : ℕ) (sent : SentText) (fdt : Fdt) → texts id ≡ Some sent → fdt_of sent.text ≡ Ok fdt
       → AllByRecursion (λ e. IsSentEntry files e.toi e.entry) fdt.files
 
 -- the bytes of one symbol of t bytes, filled up with zeros

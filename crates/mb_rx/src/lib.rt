@@ -17,6 +17,8 @@ mod receive_tests;
 mod receiving;
 mod session;
 mod table;
+#[cfg(test)]
+mod texts_tests;
 mod toi;
 mod words;
 #[cfg(test)]

@@ -3,6 +3,7 @@ ghost use Rattle.mb_rx.specs.Lines as line;
 
 use crate::cause::Cause;
 use crate::lives::Report;
+use mb_fdt::{FdtFault, FdtKind};
 use std::alloc::{AllocError, Global};
 
 /// The line that says what an FDT Instance did.
@@ -21,6 +22,29 @@ fn others_text(alloc: Global, report: &Report) -> Result<String, AllocError>
     let (conflicting, refused) = (report.conflicting, report.refused);
     let (norow, full) = (report.norow, report.full);
     format!(in alloc; "conflicting {conflicting} refused {refused} norow {norow} full {full}")
+}
+
+/// The line that says where the text of an FDT Instance has its fault.
+pub fn bad_instance_line(alloc: Global, id: u32, fault: FdtFault) -> Result<String, AllocError>
+    ensures { IfOk result (λ text. string_bytes text ≡ line.bad_instance id fault) }
+{
+    let (number, place) = (fault_number(fault.kind), fault.place);
+    format!(in alloc; "fdt {id} fault {number} at {place}\n")
+}
+
+fn fault_number(kind: FdtKind) -> u8
+    ensures { result ≡ line.fault_number kind }
+{
+    match kind {
+        FdtKind::NotUtf8 => 1,
+        FdtKind::Syntax => 2,
+        FdtKind::Forbidden => 3,
+        FdtKind::Depth => 4,
+        FdtKind::NoExpires => 5,
+        FdtKind::BadExpires => 6,
+        FdtKind::RepeatedAttribute => 7,
+        FdtKind::TooManyFiles => 8,
+    }
 }
 
 /// The line that follows a file into the store.

@@ -43,13 +43,13 @@ pub(crate) const EXPIRES: u64 = 3_900_000_000;
 /// The head of a text, an entry, and the end: 282 bytes.
 pub(crate) const TEXT: [&str; 3] = [HEAD, ENTRY, END];
 
-const HEAD: &str =
+pub(crate) const HEAD: &str =
     "<?xml version=\"1.0\" encoding=\"UTF-8\"?>\n<FDT-Instance Expires=\"3900000000\">\n";
 
-const ENTRY: &str =
+pub(crate) const ENTRY: &str =
     "<File Content-Location=\"hello.txt\" TOI=\"5\" Content-Length=\"5\" Transfer-Length=\"5\" FEC-OTI-FEC-Encoding-ID=\"0\" FEC-OTI-Maximum-Source-Block-Length=\"64\" FEC-OTI-Encoding-Symbol-Length=\"1400\"/>\n";
 
-const END: &str = "</FDT-Instance>\n";
+pub(crate) const END: &str = "</FDT-Instance>\n";
 
 /// The same object as that of `ENTRY` under another location.
 const MOVED: &str =

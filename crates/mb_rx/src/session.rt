@@ -9,7 +9,7 @@ ghost use Rattle.mb_rx.specs.Listening as listening;
 
 use crate::cause::{Cause, DATAGRAMS_MAX, Ending};
 use crate::events::{print, put};
-use crate::lines::{instance_line, stored_line};
+use crate::lines::{bad_instance_line, instance_line, stored_line};
 use crate::lives::Life;
 use crate::table::{Heard, Table};
 use crate::words::RxWords;
@@ -62,6 +62,10 @@ fn make_events<S: Store, O: Sink>(
         Heard::Nothing => Ok(()),
         Heard::Instance { id, report } => {
             let line = instance_line(alloc, id, &report)?;
+            print(out, line.as_str())
+        }
+        Heard::BadInstance { id, fault } => {
+            let line = bad_instance_line(alloc, id, fault)?;
             print(out, line.as_str())
         }
         Heard::File { place, payload } => {

@@ -1,14 +1,14 @@
-ghost use Rattle.std.specs.Prelude.{◌≡◌, ◌<◌, ◌≤◌, ◌==◌, [], Some, None, ◌||◌, max, length, option_map, IfOk, slice_index_or};
+ghost use Rattle.std.specs.Prelude.{◌≡◌, ◌<◌, ◌≤◌, ◌==◌, [], Some, None, ◌||◌, max, length, option_map, IfOk, Ok, slice_index_or};
 ghost use Rattle.mb_alc.specs.Seen.{packet_seen};
 ghost use Rattle.mb_rx.specs.Receiver.{closes};
 
 use crate::drops::{Drops, Reason};
 use crate::faults::Faults;
 use crate::form::{Form, form_with};
-use crate::lives::{Life, Report, add_files, hand_out};
+use crate::lives::{Life, Report, add_files, are_received, hand_out};
 use mb_alc::{Body, Packet, PacketFault, read_packet};
 use mb_base::Memory;
-use mb_fdt::read_written;
+use mb_fdt::{Fdt, FdtFault, read_fdt};
 use std::alloc::Global;
 use std::marker::Model;
 
@@ -18,6 +18,8 @@ pub enum Heard<'a> {
     Nothing,
     /// It has the text of an FDT Instance, which was read.
     Instance { id: u32, report: Report },
+    /// It has the text of an FDT Instance, which has a fault.
+    BadInstance { id: u32, fault: FdtFault },
     /// It has the file of the life at `place`, which is handed out.
     File { place: usize, payload: &'a [u8] },
 }
@@ -63,13 +65,13 @@ impl Model for Table {
 }
 
 impl Table {
-    ghost use Rattle.mb_rx.specs.Receiver.{fresh, refuse_for, drop_for, no_instance, hear_text, hear_symbols, hear_form, hear_in_session, hear_packet, object_reason, life_of};
+    ghost use Rattle.mb_rx.specs.Receiver.{fresh, refuse_for, drop_for, no_text, is_instance_built, hear_text, hear_fdt, hear_symbols, hear_form, hear_in_session, hear_packet, object_reason, life_of};
     ghost use Rattle.mb_alc.specs.Seen.{body_seen};
     ghost use Rattle.mb_rx.specs.Run.{after_step, after_record};
     ghost use Rattle.mb_rx.specs.Seen.{life_seen, lives_seen, form_seen};
     ghost use Rattle.mb_rx.specs.Heard.{IsHeard};
     ghost use Rattle.mb_rx.specs.declared.table.Heard.TheVariants.{Nothing};
-    ghost use Rattle.mb_fdt.specs.Reading.{instance_of};
+    ghost use Rattle.mb_fdt.specs.Reader.{fdt_of};
 
     /// A table that has heard nothing.
     pub fn new(alloc: Global) -> Table
@@ -122,14 +124,14 @@ impl Table {
     }
 
     fn refused<'a>(&mut self, fault: PacketFault) -> Heard<'a>
-        ensures { IsHeard (after_step [] (no_instance (refuse_for fault self.old))) self.new result }
+        ensures { IsHeard (after_step [] (no_text (refuse_for fault self.old))) self.new result }
     {
         self.faults = self.faults.counted(fault.kind());
         Heard::Nothing
     }
 
     fn dropped<'a>(&mut self, reason: Reason) -> Heard<'a>
-        ensures { IsHeard (after_step [] (no_instance (drop_for reason self.old))) self.new result }
+        ensures { IsHeard (after_step [] (no_text (drop_for reason self.old))) self.new result }
     {
         self.drops = self.drops.counted(reason);
         Heard::Nothing
@@ -141,13 +143,18 @@ impl Table {
         self.closed = self.closed || closing;
     }
 
-    fn hear_text<'a>(&mut self, alloc: Global, id: u32, text: &[u8]) -> Result<Heard<'a>, Memory>
-        ensures { IfOk result (IsHeard (after_step [] (hear_text self.old id (instance_of text.now))) self.new) }
+    /// Whether the instance hasn't expired and all of its files are received.
+    fn is_built(&self, fdt: &Fdt) -> bool
+        ensures { result ≡ is_instance_built self.now.clock fdt.now }
     {
-        let Some(fdt) = read_written(alloc, text)? else {
-            return Ok(self.dropped(Reason::NotBuilt));
-        };
-        if self.described || fdt.expires < self.clock {
+        self.clock <= fdt.expires && are_received(fdt.files.as_slice())
+    }
+
+    /// Acts on the instance under this ID.
+    fn hear_instance<'a>(&mut self, id: u32, fdt: Fdt) -> Result<Heard<'a>, Memory>
+        ensures { IfOk result (IsHeard (after_step [] (hear_text self.old id (Ok fdt))) self.new) }
+    {
+        if !self.is_built(&fdt) {
             return Ok(self.dropped(Reason::NotBuilt));
         }
         let report = add_files(&mut self.lives, fdt.expires, fdt.files)?;
@@ -155,8 +162,20 @@ impl Table {
         Ok(Heard::Instance { id, report })
     }
 
+    fn hear_fdt<'a>(&mut self, alloc: Global, id: u32, text: &[u8]) -> Result<Heard<'a>, Memory>
+        ensures { IfOk result (IsHeard (after_step [] (hear_fdt self.old id text.now)) self.new) }
+    {
+        if self.described {
+            return Ok(self.dropped(Reason::NotBuilt));
+        }
+        match read_fdt(alloc, text)? {
+            Ok(fdt) => self.hear_instance(id, fdt),
+            Err(fault) => Ok(Heard::BadInstance { id, fault }),
+        }
+    }
+
     fn hear_symbols<'a>(&mut self, toi: u128, body: &Body<'a>) -> Heard<'a>
-        ensures { IsHeard (after_step [] (no_instance (hear_symbols self.old toi body.now.payload.now
+        ensures { IsHeard (after_step [] (no_text (hear_symbols self.old toi body.now.payload.now
             (object_reason (life_of toi self.old.lives) (body_seen body.now))))) self.new result }
     {
         match hand_out(&mut self.lives, &mut self.next, toi, body) {
@@ -173,7 +192,7 @@ impl Table {
     {
         match form {
             None => Ok(self.dropped(Reason::NotBuilt)),
-            Some(Form::Text { id, text }) => self.hear_text(alloc, id, text),
+            Some(Form::Text { id, text }) => self.hear_fdt(alloc, id, text),
             Some(Form::Symbols { toi, body }) => Ok(self.hear_symbols(toi, &body)),
         }
     }

@@ -22,7 +22,7 @@ returns-in-Ok c =
     grind (arith, common_steps, c.hand_out.auto.lives, c.deref_mut.ensures.len) in
     let made = hear_symbols-made seen c.deref_mut.result.now new c.args.toi c.in-Ok.place body
     (ap lives_seen (sym c.deref_mut.ensures.value)) handed.0 handed.1 in
-    let heard : receiver.Receiver → List Life → Type 0 = λ r xs. IsFileOf (after_step [] (receiver.no_instance (receiver.hear_symbols r c.args.toi body.payload
+    let heard : receiver.Receiver → List Life → Type 0 = λ r xs. IsFileOf (after_step [] (receiver.no_text (receiver.hear_symbols r c.args.toi body.payload
     (receiver.object_reason (receiver.life_of c.args.toi r.lives) body)))) (record seen { lives = lives_seen xs }) c.in-Ok.place body.payload in
     let placed = subst (heard seen) (sym whole) made in
     subst (λ (r : receiver.Receiver). heard r (take inside.lives.len (new ++ drop (length new) inside.lives.items))) c.self.view_is placed

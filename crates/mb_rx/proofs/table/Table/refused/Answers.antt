@@ -8,7 +8,7 @@ use Rattle.mb_rx.proofs.table.Table.refused.Goals as goal
 
 pub returns : goal.returns
 returns c = let inside = c.self.inside in
-    ap (λ (r : receiver.Receiver). after_step [] (receiver.no_instance (receiver.refuse_for c.args.fault r))) (sym c.self.view_is)
+    ap (λ (r : receiver.Receiver). after_step [] (receiver.no_text (receiver.refuse_for c.args.fault r))) (sym c.self.view_is)
     ∙ (refused-made inside.clock inside.closed inside.described inside.lives.items inside.faults inside.drops c.args.fault
     ∙ ap (λ (f : Faults). record { receiver = receiver_of inside.clock inside.closed inside.described inside.lives.items f inside.drops; events = [] })
     (ap (λ (k : FaultKind). receiver.counted_fault k inside.faults) (sym c.kind.ensures) ∙ sym c.counted-self-inside.ensures))
