@@ -8,7 +8,7 @@ use Rattle.std.proofs.lemmas.Bool.{cases_Bool, cases_lt, and_parts, not-true, ne
 use Rattle.std.proofs.lemmas.List.Concat.{flat_map-append}
 use Rattle.std.proofs.lemmas.Str.{IsUtf8-append, IsUtf8-nil, IsUtf8-encode, encode_ascii, inside_one}
 use Rattle.mb_xml.specs.Reference.{referred, are_references, are_references_in, replaced, replaced_in}
-use Rattle.mb_fdt.specs.Written.{escaped_byte, escaped}
+use Rattle.mb_fdt.specs.WrittenForm.{escaped_byte, escaped}
 use Rattle.mb_fdt.proofs.Lists.{each_append}
 use Rattle.mb_fdt.proofs.SlotsFilled.{same_bytes}
 use Rattle.mb_fdt.proofs.PlainValues.{IsQuotable, ascii_then}

@@ -1,10 +1,3 @@
--- what is written for files of one symbol is read
-pub mod Fields
-pub mod Numbers
-pub mod Locations
-pub mod Elements
-pub mod Loops
-pub mod Law
 -- lists, bytes, and how the reader goes on
 pub mod Lists
 pub mod Characters

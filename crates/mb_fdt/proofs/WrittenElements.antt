@@ -8,8 +8,7 @@ use Rattle.mb_geom.specs.declared.desc.Scheme.TheVariants.{NoCode, Raptor}
 use Rattle.mb_fdt.specs.Known.{root_names, file_names}
 use Rattle.mb_fdt.specs.Element.{Tag, tag_bytes, IsTag}
 use Rattle.mb_fdt.specs.Says.{AreOnce}
-use Rattle.mb_fdt.specs.Written.{attribute, escaped, complete_attribute}
-use Rattle.mb_fdt.specs.WrittenForm.{md5_attribute, info_bytes, oti_attributes, file_element, SchemeFits, IsWritableFile}
+use Rattle.mb_fdt.specs.WrittenForm.{attribute, escaped, complete_attribute, md5_attribute, info_bytes, oti_attributes, file_element, SchemeFits, IsWritableFile}
 use Rattle.mb_fdt.proofs.PlainValues.{decimal_plain, base64_plain}
 use Rattle.mb_fdt.proofs.Escaping.{ascii_utf8}
 use Rattle.mb_fdt.proofs.WrittenTags.{Given, made_tag, written_before, tag_form, are_words, AreValues, plain_value, location_value, tag_is, tag_utf8, are_once, once_from}

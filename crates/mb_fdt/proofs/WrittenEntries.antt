@@ -15,8 +15,7 @@ use Rattle.mb_xml.specs.Value.{number_of, bytes_of}
 use Rattle.mb_fdt.specs.declared.fdt.FileEntry.{FileEntry}
 use Rattle.mb_fdt.specs.Says.{value_of}
 use Rattle.mb_fdt.specs.Entry.{Said, said_by, toi_of, raptor_of, parts_of, refusals, first_refusal, unless, entry_of}
-use Rattle.mb_fdt.specs.Written.{escaped}
-use Rattle.mb_fdt.specs.WrittenForm.{info_bytes, SchemeFits, IsWritableFile}
+use Rattle.mb_fdt.specs.WrittenForm.{escaped, info_bytes, SchemeFits, IsWritableFile}
 use Rattle.mb_fdt.proofs.PlainValues.{decimal_plain, base64_plain, plain_replaced, decimal_read, base64_read}
 use Rattle.mb_fdt.proofs.Escaping.{escaped_replaced}
 use Rattle.mb_fdt.proofs.WrittenTags.{Given, made}

@@ -8,7 +8,7 @@ use Rattle.mb_xml.specs.Reference.{are_references}
 use Rattle.mb_fdt.specs.Known.{is_read}
 use Rattle.mb_fdt.specs.Element.{Attribute, attribute_bytes, IsAttribute, Tag, tag_bytes, IsTag}
 use Rattle.mb_fdt.specs.Says.{AreOnce}
-use Rattle.mb_fdt.specs.Written.{attribute, escaped}
+use Rattle.mb_fdt.specs.WrittenForm.{attribute, escaped}
 use Rattle.mb_fdt.proofs.PlainValues.{IsQuotable, IsPlain, plain_quotable, plain_references, plain_utf8, ascii_then}
 use Rattle.mb_fdt.proofs.Escaping.{escaped_references, escaped_quotable, escaped_utf8, is_ascii, ascii_utf8}
 

@@ -1,5 +1,5 @@
 -- What is written is the text of what was given, so that it is read.
-use Rattle.std.proofs.Common.{◌≡◌, ℕ, ◌^◌, ◌<◌, ◌==◌, not, Bool, true, false, List, [], ◌∷◌, ◌++◌, length, Some, is_some, unwrap_or, IsUtf8, codes, decimal, refl, sym, subst, ap, ◌∙◌, arith, append_assoc}
+use Rattle.std.proofs.Common.{◌≡◌, ℕ, ◌^◌, ◌<◌, ◌==◌, ◌&&◌, not, Bool, true, false, List, [], ◌∷◌, ◌++◌, length, Some, is_some, unwrap_or, IsUtf8, codes, decimal, refl, sym, subst, ap, ◌∙◌, arith, append_assoc}
 use Rattle.std.proofs.lemmas.Bool.{and_parts, both_ways, not-true, eq-eqb}
 use Rattle.std.proofs.lemmas.List.{length-map}
 use Rattle.std.proofs.lemmas.Str.{IsUtf8-append}
@@ -11,10 +11,8 @@ use Rattle.mb_fdt.specs.Element.{Lacks, tag_bytes, Content}
 use Rattle.mb_fdt.specs.Element.Content.{Nothing, Byte}
 use Rattle.mb_fdt.specs.Text.{Declaration, Text, text_bytes, IsText}
 use Rattle.mb_fdt.specs.Says.{value_of, text_files, expires_in, said_in, IsWithin}
-use Rattle.mb_fdt.specs.Written.{attribute, complete_attribute}
-use Rattle.mb_fdt.specs.WrittenForm.{written_form, IsWritable}
+use Rattle.mb_fdt.specs.WrittenForm.{attribute, complete_attribute, written_form, IsWritable}
 use Rattle.mb_fdt.specs.Laws.{WrittenIsRead}
-use Rattle.mb_fdt.proofs.Fields.{lacks}
 use Rattle.mb_fdt.proofs.Texts.{texts_read}
 use Rattle.mb_fdt.proofs.PlainValues.{decimal_plain, plain_replaced, decimal_read}
 use Rattle.mb_fdt.proofs.Escaping.{ascii_utf8}
@@ -79,6 +77,11 @@ written_utf8 f is =
     (IsUtf8-append (elements f.files) closing (elements_utf8 f.files is.each) (ascii_utf8 closing refl)))))
 
 -- ---- the grammar
+
+-- no byte of the list is c
+abbrev lacks : ℕ → List ℕ → Bool
+lacks c [] = true
+lacks c (b ∷ bytes) = not (b == c) && lacks c bytes
 
 -- bytes lack a word where they lack its first byte
 lacks_first : (first : ℕ) (word bytes : List ℕ) → lacks first bytes ≡ true → Lacks (first ∷ word) bytes

@@ -15,6 +15,3 @@ pub mod SaidSeen
 pub mod CodingSeen
 pub mod ReaderSeen
 pub mod Run
-pub mod Reading
-pub mod Seen
-pub mod Written

@@ -1,5 +1,5 @@
 -- The written form of an instance: one text for each (element and attribute names of RFC 3926 section 3.4.2).
-use Rattle.std.specs.Prelude.{◌≡◌, ℕ, ◌^◌, ◌<◌, ◌≤◌, List, [], ◌∷◌, ◌++◌, length, flat_map, Option, Some, None, IfSome, Result, Ok, Err, codes, decimal}
+use Rattle.std.specs.Prelude.{◌≡◌, ℕ, ◌^◌, ◌<◌, ◌≤◌, ◌==◌, ◌&&◌, Bool, true, false, nat_lt, if◌then◌else◌, List, [], ◌∷◌, ◌++◌, length, flat_map, Option, Some, None, IfSome, Result, Ok, Err, codes, decimal}
 use Rattle.std.specs.List.{AllByRecursion}
 use Rattle.base64.specs.Engines.{standard}
 use Rattle.base64.specs.GeneralPurpose.{encode_of}
@@ -9,7 +9,29 @@ use Rattle.mb_geom.specs.declared.desc.Scheme.{Scheme}
 use Rattle.mb_geom.specs.declared.desc.Scheme.TheVariants.{NoCode, Raptor}
 use Rattle.mb_fdt.specs.declared.fdt.Fdt.{Fdt}
 use Rattle.mb_fdt.specs.declared.fdt.FileFault.{FileFault}
-use Rattle.mb_fdt.specs.Written.{attribute, escaped, complete_attribute}
+
+-- A location's byte as it is written in an attribute: the five characters of markup by their names, the
+-- control characters 1 to 31 by their numbers, and every other byte as it is.
+unfoldable pub escaped_byte : ℕ → List ℕ
+escaped_byte b =
+    if b == 38 then codes "&amp;"
+    else if b == 60 then codes "&lt;"
+    else if b == 62 then codes "&gt;"
+    else if b == 34 then codes "&quot;"
+    else if b == 39 then codes "&apos;"
+    else if nat_lt 0 b && nat_lt b 32 then codes "&#" ++ (decimal b ++ codes ";")
+    else b ∷ []
+
+abbrev pub escaped : List ℕ → List ℕ
+escaped location = flat_map escaped_byte location
+
+-- an attribute, and before it a space
+abbrev pub attribute : List ℕ → List ℕ → List ℕ
+attribute name value = codes " " ++ (name ++ (codes "=\"" ++ (value ++ codes "\"")))
+
+abbrev pub complete_attribute : Bool → List ℕ
+complete_attribute true = attribute (codes "Complete") (codes "true")
+complete_attribute false = []
 
 -- MD5, where it is given
 abbrev pub md5_attribute : Option (List ℕ) → List ℕ

@@ -20,15 +20,11 @@ mod tag;
 mod tags;
 mod token;
 mod write;
-mod written;
 
 pub use fdt::{Attr, Fdt, FdtFault, FdtKind, FileEntries, FileEntry, FileFault};
 pub use laws::texts_are_read;
 pub use read::read_fdt;
 pub use write::write_fdt;
-pub use written::{read_written, written_is_read};
 
 #[cfg(test)]
 mod read_tests;
-#[cfg(test)]
-mod tests;

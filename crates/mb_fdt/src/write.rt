@@ -1,9 +1,10 @@
-ghost use Rattle.std.specs.Prelude.{◌≡◌, ◌++◌, OnOk, IfOk, codes, decimal, flat_map};
+ghost use Rattle.std.specs.Prelude.{◌≡◌, ◌++◌, Ok, OnOk, IfOk, codes, decimal, flat_map};
 ghost use Rattle.base64.specs.Engines.{standard};
 ghost use Rattle.base64.specs.GeneralPurpose.{encode_of};
 ghost use Rattle.mb_base.specs.Number.{be_bytes};
-ghost use Rattle.mb_fdt.specs.Written.{attribute, escaped, escaped_byte, complete_attribute};
+ghost use Rattle.mb_fdt.specs.WrittenForm.{attribute, escaped, escaped_byte, complete_attribute};
 ghost use Rattle.mb_fdt.specs.WrittenForm as form;
+ghost use Rattle.mb_fdt.specs.Reader.{fdt_of};
 
 use crate::fdt::{Fdt, FileEntry};
 use base64::engine::general_purpose::STANDARD;
@@ -13,9 +14,15 @@ use std::alloc::Global;
 
 /// The written form of an instance (RFC 3926 section 3.4.2): one text for each instance whose files all have
 /// descriptions. An entry that has none, or no TOI, is left out.
+///
+/// # Errors
+///
+/// [`Memory`] where there is no memory for the text.
 #[tactic(auto, unfolding(crate::specs::WrittenForm::written_form))]
 pub fn write_fdt(alloc: Global, fdt: &Fdt) -> Result<Vec<u8>, Memory>
-    ensures { IfOk result (λ text. text.items ≡ form.written_form fdt.now) }
+    ensures form { IfOk result (λ text. text.items ≡ form.written_form fdt.now) }
+    // Reading the text gives the instance.
+    ensures read_back { form.IsWritable fdt.now → IfOk result (λ text. fdt_of text.items ≡ Ok fdt.now) }
 {
     let mut text = Vec::new(alloc);
     text.extend_from_slice(b"<?xml version=\"1.0\" encoding=\"UTF-8\"?>\n<FDT-Instance")?;
@@ -67,7 +74,7 @@ fn put_complete(text: &mut Vec<u8>, complete: bool) -> Result<(), Memory>
 }
 
 /// Appends a byte of a location as it is written in an attribute.
-#[tactic(auto, unfolding(crate::specs::Written::escaped_byte))]
+#[tactic(auto, unfolding(crate::specs::WrittenForm::escaped_byte))]
 fn put_escaped_byte(alloc: Global, text: &mut Vec<u8>, byte: u8) -> Result<(), Memory>
     ensures { OnOk result (text.new.items ≡ text.old.items ++ escaped_byte byte) }
 {

@@ -1,7 +1,7 @@
 use Rattle.std.proofs.Common.{ℕ, List, ◌++◌, codes, decimal, ap, ◌∙◌}
 use Rattle.base64.specs.Engines.{standard}
 use Rattle.base64.specs.GeneralPurpose.{encode_of}
-use Rattle.mb_fdt.specs.Written.{attribute}
+use Rattle.mb_fdt.specs.WrittenForm.{attribute}
 use Rattle.mb_fdt.proofs.WriteLemmas.{three_parts}
 use Rattle.mb_fdt.proofs.write.put_coding.Goals as goal
 

@@ -1,5 +1,5 @@
 use Rattle.std.proofs.Common.{◌≡◌, ◌++◌, drop, flat_map}
-use Rattle.mb_fdt.specs.Written.{escaped_byte}
+use Rattle.mb_fdt.specs.WrittenForm.{escaped_byte}
 use Rattle.mb_fdt.proofs.write.put_escaped.Given as goal
 
 abbrev pub invariant-loop-byte : goal.invariant-loop-byte

@@ -1,7 +1,6 @@
 use Rattle.std.proofs.Common.{ℕ, List, ◌++◌, codes, decimal, Option, ap, ap₂, ◌∙◌}
 use Rattle.mb_geom.specs.declared.desc.Scheme.{Scheme}
-use Rattle.mb_fdt.specs.Written.{attribute, escaped}
-use Rattle.mb_fdt.specs.WrittenForm.{md5_attribute, oti_attributes}
+use Rattle.mb_fdt.specs.WrittenForm.{attribute, escaped, md5_attribute, oti_attributes}
 use Rattle.mb_fdt.proofs.WriteLemmas.{eight_parts}
 use Rattle.mb_fdt.proofs.write.put_file.Goals as goal
 
