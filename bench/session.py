@@ -37,9 +37,13 @@ def description():
             ' FEC-OTI-Maximum-Source-Block-Length="64" FEC-OTI-Encoding-Symbol-Length="1400"/>\n'
         )
     lines.append("</FDT-Instance>\n")
-    text = "".join(lines).encode()
+    return text_packet("".join(lines).encode())
+
+
+def text_packet(text):
+    """The packet of an FDT Instance, with the whole of its text."""
     # The text is one symbol, so the symbol length of its packet is at least its length.
-    size = len(text).to_bytes(6, "big") + b"\0\0" + (65_000).to_bytes(2, "big")
+    size = len(text).to_bytes(6, "big") + b"\0\0" + (0xFFFF).to_bytes(2, "big")
     head = numbers(0x10A00900, 0, TSI, 0, 0xC0100001) + b"\x40\x04" + size + numbers(64, 0)
     return record(head + text)
 
