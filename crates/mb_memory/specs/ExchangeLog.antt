@@ -1,0 +1,44 @@
+-- What the exchanges of connections in memory mean.
+use Rattle.std.specs.Prelude.{◌≡◌, ℕ, List, [], ◌∷◌, ◌++◌, map, reverse, drop, Option, Some, None, option_to_list, is_some}
+use Rattle.std.specs.Global.{Vec}
+use Rattle.mb_outside.specs.Links.{Exchange, Traffic}
+use Rattle.mb_memory.specs.declared.exchange_log.ExchangeLog.{ExchangeLog}
+
+-- the exchanges up to now
+abbrev pub exchanges_of : ExchangeLog → List Exchange
+exchanges_of log = log.earlier.items ++ option_to_list log.last
+
+-- the whole answer of the last exchange
+abbrev pub answer_of : Option Exchange → List ℕ
+answer_of None = []
+answer_of (Some last) = last.answered
+
+-- what is left of it
+abbrev pub left_of : Option ℕ → List ℕ → List ℕ
+left_of None answer = answer
+left_of (Some received) answer = drop received answer
+
+abbrev pub waiting_of : ExchangeLog → List ℕ
+waiting_of log = left_of log.received (answer_of log.last)
+
+-- the answers of the connections to come
+abbrev pub coming_of : ExchangeLog → List (List ℕ)
+coming_of log = map (λ (answer : Vec ℕ). answer.items) (reverse log.answers.items)
+
+abbrev pub traffic_of : ExchangeLog → Traffic
+traffic_of log = record { exchanges = exchanges_of log; coming = coming_of log; waiting = waiting_of log; begun = is_some log.received }
+
+-- the first of the answers to come, or an empty one
+abbrev pub next_answer : List (List ℕ) → List ℕ
+next_answer [] = []
+next_answer (answer ∷ others) = answer
+
+-- the answers behind it
+abbrev pub later_answers : List (List ℕ) → List (List ℕ)
+later_answers [] = []
+later_answers (answer ∷ others) = others
+
+-- the new exchange waits with the next of the answers to come
+pub record TakesAnswer (old new : Traffic) : Type 0 where
+  pub waiting : new.waiting ≡ next_answer old.coming
+  pub coming : new.coming ≡ later_answers old.coming
