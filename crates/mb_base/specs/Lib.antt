@@ -3,7 +3,9 @@ pub use Rattle.mb_outside.specs.Broadcast
 pub use Rattle.mb_outside.specs.Files
 pub use Rattle.mb_outside.specs.Links
 pub use Rattle.mb_outside.specs.Chance
-pub use Rattle.mb_outside.specs.Status
+pub use Rattle.mb_outside.specs.StatusNumber
+pub use Rattle.mb_outside.specs.declared.status.Status
+pub use Rattle.mb_outside.specs.declared.air.AirEvent
 pub use Rattle.mb_memory.specs.Plan
 pub use Rattle.mb_memory.specs.InMemory
 pub use Rattle.mb_memory.specs.ExchangeLog

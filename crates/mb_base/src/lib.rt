@@ -4,8 +4,8 @@
 
 pub use mb_memory::{Bytes, ListChance, MemLinks, MemSink, MemSource, MemStore, Numbers};
 pub use mb_outside::{
-    Air, AirEvent, Chance, DATAGRAM_MAX, Failed, Gate, Links, Memory, OpenGate, Sink, Source,
-    Status, Store, WordsFault, write_all,
+    Air, AirEvent, Chance, DATAGRAM_MAX, DatagramBuffer, Failed, Gate, Links, Memory, OpenGate,
+    Sink, Source, Status, Store, WordsFault, room, write_all,
 };
 pub use mb_system::{FolderStore, StdSink, StdSource};
 pub use mb_trace::{

@@ -1,5 +1,5 @@
 -- What the exchanges of connections in memory mean.
-use Rattle.std.specs.Prelude.{◌≡◌, ℕ, List, [], ◌∷◌, ◌++◌, map, reverse, drop, Option, Some, None, option_to_list, is_some}
+use Rattle.std.specs.Prelude.{ℕ, List, [], ◌++◌, map, reverse, drop, Option, Some, None, option_to_list, is_some}
 use Rattle.std.specs.Global.{Vec}
 use Rattle.mb_outside.specs.Links.{Exchange, Traffic}
 use Rattle.mb_memory.specs.declared.exchange_log.ExchangeLog.{ExchangeLog}
@@ -27,18 +27,3 @@ coming_of log = map (λ (answer : Vec ℕ). answer.items) (reverse log.answers.i
 
 abbrev pub traffic_of : ExchangeLog → Traffic
 traffic_of log = record { exchanges = exchanges_of log; coming = coming_of log; waiting = waiting_of log; begun = is_some log.received }
-
--- the first of the answers to come, or an empty one
-abbrev pub next_answer : List (List ℕ) → List ℕ
-next_answer [] = []
-next_answer (answer ∷ others) = answer
-
--- the answers behind it
-abbrev pub later_answers : List (List ℕ) → List (List ℕ)
-later_answers [] = []
-later_answers (answer ∷ others) = others
-
--- the new exchange waits with the next of the answers to come
-pub record TakesAnswer (old new : Traffic) : Type 0 where
-  pub waiting : new.waiting ≡ next_answer old.coming
-  pub coming : new.coming ≡ later_answers old.coming

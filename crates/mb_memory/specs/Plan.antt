@@ -1,10 +1,11 @@
 -- Which calls of an object in memory fail, and what it counts of them.
-use Rattle.std.specs.Prelude.{◌≡◌, ℕ, ◌+◌, ◌-◌, ◌^◌, min, List, Bool, if◌then◌else◌, Contains, Result, OnOk, OnErr, IsErr}
+use Rattle.std.specs.Prelude.{◌≡◌, ℕ, ◌+◌, min, List, Bool, if◌then◌else◌, Contains, Result, OnOk, OnErr, IsErr}
+use Rattle.mb_outside.specs.Outside.{count_most}
 use Rattle.mb_memory.specs.declared.plan.Plan.{Plan}
 
 -- a count stands still at the last value of its type
 abbrev pub next_count : ℕ → ℕ
-next_count n = min (n + 1) (2 ^ 64 - 1)
+next_count n = min (n + 1) count_most
 
 -- no call was made yet
 abbrev pub new_plan : List ℕ → Plan
@@ -24,7 +25,7 @@ IsListed plan = Contains plan.failing plan.calls
 
 -- the calls that failed: those that were listed, and those that found no room
 abbrev pub faults_of : Plan → ℕ
-faults_of plan = min (plan.listed + plan.refused) (2 ^ 64 - 1)
+faults_of plan = min (plan.listed + plan.refused) count_most
 
 -- a listed call fails, and is counted as one
 pub record IsListedCall {T E : Type 0} (old new : Plan) (result : Result T E) : Type 0 where

@@ -21,7 +21,12 @@ impl Model for Entry {
 }
 
 impl Entry {
-    pub(crate) fn copied(alloc: Global, toi: u128, location: &[u8], bytes: &[u8]) -> Result<Self, Memory>
+    pub(crate) fn copied(
+        alloc: Global,
+        toi: u128,
+        location: &[u8],
+        bytes: &[u8],
+    ) -> Result<Self, Memory>
         ensures { IfOk result (λ e. e ≡ record { toi = toi; location = location.now; bytes = bytes.now }) }
     {
         let location = Bytes::from_vec(location.to_vec(alloc)?);

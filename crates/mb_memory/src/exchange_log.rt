@@ -18,7 +18,7 @@ pub(crate) struct ExchangeLog {
 }
 
 impl ExchangeLog {
-    ghost use Rattle.mb_memory.specs.ExchangeLog.{traffic_of, exchanges_of, waiting_of, coming_of, TakesAnswer};
+    ghost use Rattle.mb_memory.specs.ExchangeLog.{traffic_of, exchanges_of, waiting_of, coming_of};
 
     pub(crate) fn new(alloc: Global, answers: Vec<Vec<u8>>) -> Self
         ensures exchanges { exchanges_of result ≡ [] }
@@ -40,7 +40,6 @@ impl ExchangeLog {
     /// Adds an exchange that takes the next answer, or an empty one where none is left.
     pub(crate) fn connect(&mut self, server: u32) -> Result<(), Memory>
         ensures made { OnOk result (Connects server (traffic_of self.old) (traffic_of self.new)) }
-        ensures taken { OnOk result (TakesAnswer (traffic_of self.old) (traffic_of self.new)) }
         ensures stands { OnOk result (is_some self.new.last ≡ true) }
         ensures kept { OnErr result (traffic_of self.new ≡ traffic_of self.old) }
     {

@@ -2,9 +2,9 @@ ghost use Rattle.std.specs.Prelude.{◌≡◌, ◌↔◌, ◌⊎◌, ◌<◌, �
 ghost use Rattle.mb_outside.specs.Outside.{HasCause};
 ghost use Rattle.mb_outside.specs.Links.{Exchange, Connects, FailsToConnect, Sends, Receives, Breaks};
 
+use crate::Numbers;
 use crate::exchange_log::ExchangeLog;
 use crate::plan::Plan;
-use crate::Numbers;
 use mb_outside::{Failed, Links, Memory};
 use std::alloc::Global;
 
@@ -95,7 +95,6 @@ impl MemLinks {
 impl Links for MemLinks {
     ghost use Rattle.mb_memory.specs.Plan.{Calls, CallsForRoom, IsListed, faults_of};
     ghost use Rattle.mb_memory.specs.MemLinks.{traffic_in, told_in, KeepsTelling, StopsTelling};
-    ghost use Rattle.mb_memory.specs.ExchangeLog.{TakesAnswer};
 
     type Made = Numbers;
 
@@ -110,7 +109,6 @@ impl Links for MemLinks {
     fn connect(&mut self, server: u32) -> Result<(), Failed>
         ensures connected { IsTrue self.new.connected ↔ IsOk result }
         ensures made_one { OnOk result (Connects server (traffic_in self.old) (traffic_in self.new)) }
-        ensures taken { OnOk result (TakesAnswer (traffic_in self.old) (traffic_in self.new)) }
         ensures told { OnOk result (KeepsTelling self.old self.new) }
         ensures made_none { OnErr result ((KeepsTelling self.old self.new × FailsToConnect server (traffic_in self.old) (traffic_in self.new)) ⊎ StopsTelling self.old self.new) }
         ensures cause { HasCause (faults_of self.old.plan) (faults_of self.new.plan) result }

@@ -1,8 +1,8 @@
 ghost use Rattle.std.specs.Prelude.{◌≡◌, ℕ, ◌<◌, ◌≤◌, Some, [], ◌++◌, length, take, IfOk, IsOkAnd, OnErr};
 ghost use Rattle.mb_outside.specs.Outside.{HasCause};
 
-use crate::plan::Plan;
 use crate::Numbers;
+use crate::plan::Plan;
 use mb_outside::{Failed, Memory, Sink};
 use std::alloc::Global;
 

@@ -1,8 +1,8 @@
 ghost use Rattle.std.specs.Prelude.{◌≡◌, ◌↔◌, ℕ, ◌<◌, ◌≤◌, Some, [], ◌++◌, length, take, drop, vec_len, IfOk, IsOkAnd, OnErr, IsErr};
-ghost use Rattle.mb_outside.specs.Outside.{HasCause};
+ghost use Rattle.mb_outside.specs.Outside.{HasCause, AreBytes};
 
-use crate::plan::Plan;
 use crate::Numbers;
+use crate::plan::Plan;
 use mb_outside::{Failed, Memory, Source};
 
 /// A source whose bytes to come lie in memory. A call of `read` takes no memory and fails exactly where
@@ -14,6 +14,7 @@ pub struct MemSource {
     place: usize,
     plan: Plan,
     ghost within: { place ≤ vec_len bytes },
+    ghost are_bytes: { AreBytes bytes.items },
 }
 
 impl MemSource {
@@ -44,6 +45,7 @@ impl MemSource {
 impl Source for MemSource {
     ghost use Rattle.mb_memory.specs.Plan.{Calls, IsListed, faults_of};
     ghost use Rattle.mb_memory.specs.InMemory.{left_in};
+    ghost use Rattle.std.proofs.lemmas.List.Elements.{All-drop};
 
     type Made = Numbers;
 
@@ -71,4 +73,6 @@ impl Source for MemSource {
         self.place += count;
         Ok(count)
     }
+
+    ghost bytes = { λ source. All-drop (λ byte. byte < 256) source.place source.bytes.items source.are_bytes };
 }

@@ -2,9 +2,9 @@ ghost use Rattle.std.specs.Prelude.{◌≡◌, ◌↔◌, ℕ, ◌<◌, Some, []
 ghost use Rattle.mb_outside.specs.Outside.{HasCause};
 ghost use Rattle.mb_outside.specs.Files.{File};
 
+use crate::Numbers;
 use crate::entry::Entry;
 use crate::plan::Plan;
-use crate::Numbers;
 use mb_outside::{Failed, Memory, Store};
 use std::alloc::Global;
 

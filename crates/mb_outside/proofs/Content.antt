@@ -2,7 +2,8 @@
 use Rattle.std.proofs.Common.{◌≡◌, ℕ, ◌+◌, ◌-◌, List, [], ◌++◌, length, take, drop, Option, Some, None, refl, sym, ◌∙◌, ap, append_assoc, arith}
 use Rattle.std.proofs.Math.Seq.{take-add}
 use Rattle.std.proofs.lemmas.Grind.{common_steps}
-use Rattle.mb_outside.specs.Outside.{Grows, Stays}
+use Rattle.mb_outside.specs.Outside.{Grows, Stays, Becomes}
+use Rattle.mb_outside.specs.Broadcast.{Record, Broadcast, Takes}
 
 pub Grows-nil : {A : Type 0} (now : Option (List A)) → Grows now now []
 Grows-nil None = tt
@@ -38,3 +39,15 @@ Stays-trans None b c p q = tt
 Stays-trans (Some x) None c p q = absurd p
 Stays-trans (Some x) (Some y) None p q = absurd q
 Stays-trans (Some x) (Some y) (Some z) p q = q ∙ p
+
+pub Takes-none : (air : Option Broadcast) → Becomes air air (Takes [])
+Takes-none None = tt
+Takes-none (Some air) = refl
+
+pub Takes-trans : (a b c : Option Broadcast) (xs ys : List Record) → Becomes a b (Takes xs) → Becomes b c (Takes ys) → Becomes a c (Takes (xs ++ ys))
+Takes-trans None b c xs ys p q = tt
+Takes-trans (Some a) None c xs ys p q = absurd p
+Takes-trans (Some a) (Some b) None xs ys p q = absurd q
+Takes-trans (Some a) (Some b) (Some c) xs ys p q =
+    p ∙ (ap (λ (x : Broadcast). record x { records = xs ++ x.records }) q
+    ∙ ap (λ (rs : List Record). record c { records = rs }) (sym (append_assoc xs ys c.records)))

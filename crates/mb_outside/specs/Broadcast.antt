@@ -1,9 +1,12 @@
 -- What the air means: records to come, each a datagram with its moment, and how they end.
-use Rattle.std.specs.Prelude.{◌≡◌, ℕ, ◌<◌, ◌≤◌, List, [], ◌∷◌, Option, Some, None, take, ⊤}
+use Rattle.std.specs.Prelude.{◌≡◌, ℕ, ◌<◌, ◌≤◌, List, [], ◌∷◌, ◌++◌, Option, Some, None, take, ⊤}
 use Rattle.mb_outside.specs.Outside.{Rose}
-use Rattle.mb_outside.specs.declared.air.TheConstants.{DATAGRAM_MAX}
 use Rattle.mb_outside.specs.declared.air.AirEvent.{AirEvent}
 use Rattle.mb_outside.specs.declared.air.AirEvent.TheVariants.{Datagram, Quiet, Ended, Broken, Failed}
+
+-- how many bytes a datagram has at most: what a length of 16 bits can say
+abbrev pub datagram_most : ℕ
+datagram_most = 65535
 
 -- a datagram and the moment at which it came, in NTP seconds
 pub record Record : Type 0 where
@@ -32,7 +35,7 @@ Hears until Failed buf old new = new ≡ old
 
 -- told or not, a datagram has at most the most bytes, and comes by the moment that was asked for
 abbrev pub IsWithin : ℕ → AirEvent → Type 0
-IsWithin until (Datagram at len) = (at ≤ until) × (len ≤ DATAGRAM_MAX)
+IsWithin until (Datagram at len) = (at ≤ until) × (len ≤ datagram_most)
 IsWithin until Quiet = ⊤
 IsWithin until Ended = ⊤
 IsWithin until (Broken place) = ⊤
@@ -49,3 +52,12 @@ EventCause before now Failed = (before ≤ now) × Rose before now
 -- only the moment of the last rest changes
 abbrev pub Rests : ℕ → Broadcast → Broadcast → Type 0
 Rests until old new = new ≡ record old { rested = Some until }
+
+-- these records were taken, and nothing else changed
+abbrev pub Takes : List Record → Broadcast → Broadcast → Type 0
+Takes records old new = old ≡ record new { records = records ++ new.records }
+
+-- no record is left, and the air is broken there, or it is not
+pub record IsOver (broken : Option ℕ) (air : Broadcast) : Type 0 where
+  pub none_left : air.records ≡ []
+  pub end : air.broken ≡ broken

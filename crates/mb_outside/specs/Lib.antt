@@ -3,4 +3,4 @@ pub mod Broadcast
 pub mod Files
 pub mod Links
 pub mod Chance
-pub mod Status
+pub mod StatusNumber

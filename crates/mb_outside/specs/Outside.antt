@@ -1,9 +1,13 @@
 -- What is told of an object of the outside, and when one of its calls may fail.
-use Rattle.std.specs.Prelude.{◌≡◌, ℕ, ◌+◌, ◌-◌, ◌^◌, ◌≤◌, min, List, [], ◌++◌, Option, Some, None, Result, OnOk, OnErr, ⊤}
+use Rattle.std.specs.Prelude.{◌≡◌, ℕ, ◌+◌, ◌-◌, ◌^◌, ◌<◌, ◌≤◌, min, List, [], ◌++◌, Option, Some, None, All, Result, OnOk, OnErr, ⊤}
 
--- A count rose. It stands still at the last value of its type, so there it may stand.
+-- the last value of a count, at which it stands still
+abbrev pub count_most : ℕ
+count_most = 2 ^ 64 - 1
+
+-- A count rose. At its last value it may stand.
 abbrev pub Rose : ℕ → ℕ → Type 0
-Rose before now = min (before + 1) (2 ^ 64 - 1) ≤ now
+Rose before now = min (before + 1) count_most ≤ now
 
 -- A call fails only where the count of faults rose in it, and never lowers that count.
 pub record HasCause {T E : Type 0} (before now : ℕ) (result : Result T E) : Type 0 where
@@ -11,7 +15,8 @@ pub record HasCause {T E : Type 0} (before now : ℕ) (result : Result T E) : Ty
   pub failed : OnErr result (Rose before now)
   pub kept : OnOk result (now ≡ before)
 
--- Content is told (Some) or not (None). A fact about content is owed where it is told, and what is told stays told.
+-- Content is told (Some) or not (None). A fact about content is owed where it is told, and what is told stays
+-- told. Of untold content nothing is owed, so it may become told.
 
 -- the content is as before
 abbrev pub Stays : {A : Type 0} → Option A → Option A → Type 0
@@ -37,14 +42,16 @@ Becomes None new R = ⊤
 Becomes (Some x) None R = ⊥
 Becomes (Some x) (Some y) R = R x y
 
--- For content that may stop being told, and then stays untold: what is told now was told before, and is related to it.
-abbrev pub Follows : {A : Type 0} → Option A → Option A → (A → A → Type 0) → Type 0
-Follows None None R = ⊤
-Follows (Some x) None R = ⊤
-Follows None (Some y) R = ⊥
-Follows (Some x) (Some y) R = R x y
-
 -- no byte is left
 abbrev pub EndsAt : {A : Type 0} → Option (List A) → Type 0
 EndsAt None = ⊤
 EndsAt (Some xs) = xs ≡ []
+
+-- each is a byte
+abbrev pub AreBytes : List ℕ → Type 0
+AreBytes bytes = All (λ byte. byte < 256) bytes
+
+-- what is told is bytes
+abbrev pub AreToldBytes : Option (List ℕ) → Type 0
+AreToldBytes None = ⊤
+AreToldBytes (Some bytes) = AreBytes bytes

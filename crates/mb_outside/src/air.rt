@@ -1,6 +1,7 @@
-ghost use Rattle.std.specs.Prelude.{◌≡◌, ℕ, Option, length};
+ghost use Rattle.std.specs.Prelude.{◌≡◌, ℕ, Option};
 ghost use Rattle.mb_outside.specs.Outside.{Becomes};
-ghost use Rattle.mb_outside.specs.declared.air.TheConstants.{DATAGRAM_MAX};
+
+use crate::DatagramBuffer;
 
 /// How many bytes a datagram has at most.
 pub const DATAGRAM_MAX: usize = 65_535;
@@ -36,8 +37,7 @@ pub trait Air {
 
     /// Takes the next record, if its moment is at most `until`, and moves its bytes into the front of
     /// `buf`. Every other answer takes none.
-    fn next(&mut self, until: u64, buf: &mut [u8]) -> AirEvent
-        requires { length buf.old ≡ DATAGRAM_MAX }
+    fn next(&mut self, until: u64, buf: &mut DatagramBuffer) -> AirEvent
         ensures within { IsWithin until result }
         ensures heard { Becomes (broadcast self.old) (broadcast self.new) (Hears until result buf.new) }
         ensures cause { EventCause (faults self.old) (faults self.new) result }

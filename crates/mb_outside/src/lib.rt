@@ -3,6 +3,7 @@
 #![tactic(auto)]
 
 mod air;
+mod buffer;
 mod chance;
 mod faults;
 mod gate;
@@ -13,6 +14,7 @@ mod status;
 mod store;
 
 pub use air::{Air, AirEvent, DATAGRAM_MAX};
+pub use buffer::{DatagramBuffer, room};
 pub use chance::Chance;
 pub use faults::{Failed, Memory, WordsFault};
 pub use gate::{Gate, OpenGate};

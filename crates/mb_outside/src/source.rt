@@ -1,5 +1,5 @@
 ghost use Rattle.std.specs.Prelude.{◌≡◌, ℕ, ◌<◌, ◌≤◌, Option, List, length, take, IfOk, OnErr};
-ghost use Rattle.mb_outside.specs.Outside.{HasCause, Loses, Stays, EndsAt};
+ghost use Rattle.mb_outside.specs.Outside.{HasCause, Loses, Stays, EndsAt, AreToldBytes};
 
 use crate::Failed;
 
@@ -25,4 +25,7 @@ pub trait Source {
         ensures kept { OnErr result (Stays (left self.old) (left self.new)) }
         ensures cause { HasCause (faults self.old) (faults self.new) result }
         ensures same { made self.new ≡ made self.old };
+
+    /// The law that what is told is bytes.
+    ghost bytes: { (source : Self) → AreToldBytes (left source) };
 }

@@ -37,7 +37,7 @@ pub enum Status {
 }
 
 impl Status {
-    ghost use Rattle.mb_outside.specs.Status.{number_of};
+    ghost use Rattle.mb_outside.specs.StatusNumber.{number_of};
 
     /// The number with which a program ends.
     pub fn number(self) -> u8

@@ -38,4 +38,6 @@ impl<R: Read + Drop> Source for StdSource<R> {
             }
         }
     }
+
+    ghost bytes = { λ _. tt };
 }

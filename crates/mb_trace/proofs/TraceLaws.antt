@@ -5,11 +5,12 @@ use Rattle.std.proofs.lemmas.Bool.{cases_eq, cases_lt}
 use Rattle.std.proofs.lemmas.List.{take_at, drop_at, nil_from_length, length-replicate, take-append-drop}
 use Rattle.std.proofs.lemmas.List.Elements.{All-nil, All-cons, All-head, All-tail, All-take, All-drop, All-append, All-replicate}
 use Rattle.std.proofs.Math.Seq.{take-add, take-append-add}
+use Rattle.mb_outside.specs.Outside.{count_most}
 use Rattle.mb_outside.specs.Broadcast.{Record}
 use Rattle.mb_trace.specs.Number.{AreBytes, be_number, be_bytes}
-use Rattle.mb_trace.specs.Trace.{record_bytes, IsRecord, IsCut, EndsWith, IsTrace, TracesAreRead, record_size, has_record, first_record, records_of, records_end, broken_of}
+use Rattle.mb_trace.specs.Trace.{record_bytes, record_most, IsRecord, IsCut, EndsWith, IsTrace, TracesAreRead, record_size, has_record, first_record, records_of, records_end, broken_of, trace_broadcast, TellsTrace}
 use Rattle.mb_trace.proofs.NumberLemmas.{length-be_bytes, numbers_read_back, bytes_written_back, be_number-below}
-use Rattle.mb_trace.proofs.TraceLemmas.{size-is, size_least, has-le, has_not-lt, has_from-le, none_in-short, first-at, first-bytes, size-append, records_of-has, records_of-none, length-record_bytes, length-first, unbroken, broken}
+use Rattle.mb_trace.proofs.TraceLemmas.{size-is, size_least, has-le, has_not-lt, has_from-le, none_in-short, first-at, first-bytes, size-append, records_of-has, records_of-none, length-record_bytes, length-first, unbroken, broken, told_place-exact}
 
 -- ---- a record that was written is read
 
@@ -29,7 +30,7 @@ size-written r later fits =
     let field : take 2 (drop 6 (record_bytes r ++ later)) ≡ size =
     ap (λ l. take 2 (drop 6 l)) parts ∙ ap (take 2) (drop_at moment (size ++ (r.bytes ++ later)) 6 (length-be_bytes 6 r.at))
     ∙ take_at size (r.bytes ++ later) 2 (length-be_bytes 2 (length r.bytes)) in
-    size-is (record_bytes r ++ later) ∙ ap (λ l. 8 + be_number l) field ∙ ap (λ n. 8 + n) (numbers_read_back 2 (length r.bytes) fits.datagram)
+    size-is (record_bytes r ++ later) ∙ ap (λ l. 8 + be_number l) field ∙ ap (λ n. 8 + n) (numbers_read_back 2 (length r.bytes) (omega (arith, fits.datagram)))
 
 has-written : (r : Record) (later : List ℕ) → IsRecord r → has_record (record_bytes r ++ later) ≡ true
 has-written r later fits =
@@ -185,9 +186,9 @@ reading (suc most) bs short all =
 
 -- how many zeros make any cut record whole; a number that no proof writes out
 enough : ℕ
-enough = 65543
+enough = record_most
 
-enough-is : enough ≡ 65543
+enough-is : enough ≡ record_most
 unfolding enough
 enough-is = refl
 
@@ -198,11 +199,11 @@ zeros-bytes : AreBytes zeros
 unfolding zeros
 zeros-bytes = All-replicate (λ byte. byte < 256) enough 0 (omega arith)
 
-length-zeros : length zeros ≡ 65543
+length-zeros : length zeros ≡ record_most
 unfolding zeros
 length-zeros = length-replicate enough 0 ∙ enough-is
 
-size_most : (bs : List ℕ) → AreBytes bs → 8 ≤ length bs → record_size bs ≤ 65543
+size_most : (bs : List ℕ) → AreBytes bs → 8 ≤ length bs → record_size bs ≤ record_most
 size_most bs all long =
     let two = length-take-le 2 (drop 6 bs) (omega (arith, length-drop 6 bs)) in
     let below = subst (λ w. be_number (take 2 (drop 6 bs)) < 256 ^ w) two
@@ -222,7 +223,7 @@ cut_of-part rest all none some =
     let lengths = length-append rest zeros in
     let bytes = All-append (λ byte. byte < 256) rest zeros all zeros-bytes in
     let size = record_size padded in
-    let most : size ≤ 65543 = size_most padded bytes (omega (arith, length-zeros)) in
+    let most : size ≤ record_most = size_most padded bytes (omega (arith, length-zeros)) in
     let has : has_record padded ≡ true = has_from-le padded (omega (arith, length-zeros)) in
     let longer : length rest < size = size-zeros rest none in
     let more = take (size - length rest) zeros in
@@ -261,3 +262,8 @@ traces_read bytes records broken all = (
   one_reading bytes records broken,
   λ same. subst (λ r. IsTrace bytes r broken) (sym same.0) (subst (IsTrace bytes (records_of bytes)) (sym same.1) (is_reading bytes all)),
 )
+
+pub tells_trace : (bytes : List ℕ) (rested : Option ℕ) → AreBytes bytes → length bytes ≤ count_most
+    → TellsTrace bytes rested (Some (trace_broadcast 0 rested bytes))
+tells_trace bytes rested all short =
+    (subst (IsTrace bytes (records_of bytes)) (sym (told_place-exact bytes (omega (arith, short)))) (is_reading bytes all), refl)

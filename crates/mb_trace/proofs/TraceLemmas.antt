@@ -3,6 +3,7 @@ use Rattle.std.proofs.Common.{◌≡◌, ◌≢◌, ℕ, zero, suc, ◌+◌, ◌
 use Rattle.std.specs.Prelude.{flat_map, option_map, if◌then◌else◌}
 use Rattle.std.proofs.lemmas.List.{take-append-le, drop-append-le}
 use Rattle.std.proofs.lemmas.Bool.{leb-true, leb-false, le-leb, lt-leb, cases_eq}
+use Rattle.mb_outside.specs.Outside.{count_most}
 use Rattle.mb_outside.specs.Broadcast.{Record, Broadcast, IsPast}
 use Rattle.mb_trace.specs.Number.{be_number, be_bytes}
 use Rattle.mb_trace.specs.Trace.{record_bytes, record_size, has_record, first_record, records_in, records_of, records_end, broken_of, told_place, trace_broadcast, IsWhole, IsPart}
@@ -184,7 +185,7 @@ end-le bs = end-le_most (length bs) bs (omega arith)
 -- of a trace that its type can count, the place is told as it is
 pub told_place-exact : (bs : List ℕ) → length bs < 2 ^ 64 → told_place 0 bs ≡ broken_of bs
 told_place-exact bs short =
-    let tell : Option ℕ → Option ℕ = option_map (λ place. min (0 + place) (2 ^ 64 - 1)) in
+    let tell : Option ℕ → Option ℕ = option_map (λ place. min (0 + place) count_most) in
     let le = end-le bs in
     elim (cases_eq (records_end bs) (length bs)) [
       | inl same ↦ ap tell (unbroken bs same) ∙ sym (unbroken bs same)
@@ -198,10 +199,10 @@ told_step None before size most = refl
 told_step (Some place) before size most = ap Some (omega arith)
 
 pub told_place-has : (before : ℕ) (bs : List ℕ) → has_record bs ≡ true
-    → told_place before bs ≡ told_place (min (before + record_size bs) (2 ^ 64 - 1)) (drop (record_size bs) bs)
+    → told_place before bs ≡ told_place (min (before + record_size bs) count_most) (drop (record_size bs) bs)
 told_place-has before bs h =
-    ap (option_map (λ place. min (before + place) (2 ^ 64 - 1))) (broken-has bs h)
-    ∙ told_step (broken_of (drop (record_size bs) bs)) before (record_size bs) (2 ^ 64 - 1)
+    ap (option_map (λ place. min (before + place) count_most)) (broken-has bs h)
+    ∙ told_step (broken_of (drop (record_size bs) bs)) before (record_size bs) count_most
 
 -- ---- what is on the air
 
@@ -210,7 +211,7 @@ make_broadcast rested records broken = record { records = records; broken = brok
 
 -- the whole record at the front is given
 pub given : (size place after at : ℕ) (held next datagram : List ℕ) → IsWhole size held → at ≡ be_number (take 6 held)
-    → datagram ≡ take (size - 8) (drop 8 held) → after ≡ min (place + size) (2 ^ 64 - 1) → next ≡ drop size held
+    → datagram ≡ take (size - 8) (drop 8 held) → after ≡ min (place + size) count_most → next ≡ drop size held
     → (rested : Option ℕ) (later : List ℕ)
     → trace_broadcast place rested (held ++ later)
     ≡ record (trace_broadcast after rested (next ++ later))
@@ -227,7 +228,7 @@ given size place after at held next datagram whole at-is datagram-is after-is ne
     ∙ ap₂ make_record (first-at held ∙ sym at-is) (first-bytes held ∙ ap (λ n. take (n - 8) (drop 8 held)) (sym whole.is) ∙ sym datagram-is) in
     ap₂ (make_broadcast rested)
     (records_of-has bs has ∙ ap₂ ◌∷◌ first (ap records_of rest))
-    (told_place-has place bs has ∙ ap₂ told_place (ap (λ n. min (place + n) (2 ^ 64 - 1)) same ∙ sym after-is) rest)
+    (told_place-has place bs has ∙ ap₂ told_place (ap (λ n. min (place + n) count_most) same ∙ sym after-is) rest)
 
 -- the whole record at the front is of a later moment
 pub late : (size until : ℕ) (held : List ℕ) → IsWhole size held → until < be_number (take 6 held) → (later : List ℕ)
@@ -240,9 +241,9 @@ late size until held whole past later =
 -- no record is left, and nothing else or something
 pub ended : (place : ℕ) (held : List ℕ) → IsPart held → held ≡ [] → told_place place held ≡ None
 ended place held part none =
-    ap (option_map (λ p. min (place + p) (2 ^ 64 - 1))) (unbroken held (end-none held part.none ∙ sym (ap length none)))
+    ap (option_map (λ p. min (place + p) count_most)) (unbroken held (end-none held part.none ∙ sym (ap length none)))
 
-pub cut : (place : ℕ) (held : List ℕ) → IsPart held → 0 < length held → place < 2 ^ 64 → told_place place held ≡ Some place
+pub cut : (place : ℕ) (held : List ℕ) → IsPart held → 0 < length held → place ≤ count_most → told_place place held ≡ Some place
 cut place held part some fits =
     let end = end-none held part.none in
-    ap (option_map (λ p. min (place + p) (2 ^ 64 - 1))) (broken held (λ e. absurd (omega arith)) ∙ ap Some end) ∙ ap Some (omega arith)
+    ap (option_map (λ p. min (place + p) count_most)) (broken held (λ e. absurd (omega arith)) ∙ ap Some end) ∙ ap Some (omega arith)

@@ -2,7 +2,16 @@
 -- length in 16 bits, both with the highest byte first, and the datagram.
 use Rattle.std.specs.Prelude.{◌≡◌, ◌≢◌, ◌↔◌, ℕ, zero, suc, ◌+◌, ◌-◌, ◌^◌, ◌<◌, ◌≤◌, min, List, [], ◌∷◌, ◌++◌, length, take, drop, Bool, true, false, nat_le, nat_eq, if◌then◌else◌, Option, Some, None, option_map, All, flat_map}
 use Rattle.mb_trace.specs.Number.{AreBytes, be_number, be_bytes}
-use Rattle.mb_outside.specs.Broadcast.{Record, Broadcast}
+use Rattle.mb_outside.specs.Outside.{count_most}
+use Rattle.mb_outside.specs.Broadcast.{Record, Broadcast, datagram_most}
+
+-- moments are below this number of NTP seconds: what 48 bits can say
+abbrev pub moments_end : ℕ
+moments_end = 2 ^ 48
+
+-- how many bytes a record has at most: its moment, its length and the largest datagram
+abbrev pub record_most : ℕ
+record_most = 8 + datagram_most
 
 -- the record as the trace has it
 abbrev pub record_bytes : Record → List ℕ
@@ -10,8 +19,8 @@ record_bytes r = be_bytes 6 r.at ++ be_bytes 2 (length r.bytes) ++ r.bytes
 
 -- the moment and the length fit their fields
 pub record IsRecord (r : Record) : Type 0 where
-  pub moment : r.at < 2 ^ 48
-  pub datagram : length r.bytes < 2 ^ 16
+  pub moment : r.at < moments_end
+  pub datagram : length r.bytes ≤ datagram_most
 
 -- a beginning of a record: some of its bytes, and not all
 pub record IsCut (bytes : List ℕ) : Type 0 where
@@ -33,6 +42,11 @@ pub record IsTrace (bytes : List ℕ) (records : List Record) (broken : Option �
   pub whole : bytes ≡ flat_map record_bytes records ++ rest
   pub fits : All IsRecord records
   pub end : EndsWith rest (length (flat_map record_bytes records)) broken
+
+-- what is on the air is the trace of these bytes, with this last moment that was rested until
+abbrev pub TellsTrace : List ℕ → Option ℕ → Option Broadcast → Type 0
+TellsTrace bytes rested None = ⊥
+TellsTrace bytes rested (Some air) = IsTrace bytes air.records air.broken × (air.rested ≡ rested)
 
 -- how many bytes the record at the front has, by its length field
 unfoldable pub record_size : List ℕ → ℕ
@@ -72,7 +86,7 @@ TracesAreRead = (bytes : List ℕ) (records : List Record) (broken : Option ℕ)
 -- The place of a cut record as it is told, where so many bytes of the trace came before. It stands still
 -- at the last value of its type.
 abbrev pub told_place : ℕ → List ℕ → Option ℕ
-told_place before bytes = option_map (λ place. min (before + place) (2 ^ 64 - 1)) (broken_of bytes)
+told_place before bytes = option_map (λ place. min (before + place) count_most) (broken_of bytes)
 
 -- what is on the air, where so many bytes of the trace came before these
 abbrev pub trace_broadcast : ℕ → Option ℕ → List ℕ → Broadcast
@@ -88,9 +102,9 @@ pub record IsWhole (size : ℕ) (bytes : List ℕ) : Type 0 where
   pub is : size ≡ record_size bytes
   pub header : 8 ≤ size
   pub within : size ≤ length bytes
-  pub most : size ≤ 65543
+  pub most : size ≤ record_most
 
 -- no whole record is at the front
 pub record IsPart (bytes : List ℕ) : Type 0 where
   pub none : has_record bytes ≡ false
-  pub room : length bytes < 65543
+  pub room : length bytes < record_most

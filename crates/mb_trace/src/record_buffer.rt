@@ -1,9 +1,9 @@
 ghost use Rattle.std.specs.Prelude.{◌≡◌, ℕ, List, [], Option, ◌+◌, ◌<◌, ◌≤◌, length, drop, vec_len, IfOk};
 ghost use Rattle.mb_outside.specs.Outside.{HasCause, Stays, EndsAt};
-ghost use Rattle.mb_trace.specs.Trace.{bytes_ahead};
+ghost use Rattle.mb_trace.specs.Trace.{bytes_ahead, record_most};
 
 use crate::trace::RECORD_MAX;
-use mb_outside::{Failed, Memory, Source};
+use mb_outside::{Failed, Memory, Source, room};
 use std::alloc::Global;
 
 /// Bytes that were read from a source and not yet given: those of `bytes` from `start` to `end`, with
@@ -13,16 +13,9 @@ pub(crate) struct RecordBuffer {
     bytes: Vec<u8>,
     start: usize,
     end: usize,
-    ghost room: { vec_len bytes ≡ 65543 },
+    ghost room: { vec_len bytes ≡ record_most },
     ghost ordered: { start ≤ end },
-    ghost within: { end ≤ 65543 },
-}
-
-// The length is a parameter, since a proof would write a literal number of zeros out.
-pub(crate) fn room(alloc: Global, len: usize) -> Result<Vec<u8>, Memory>
-    ensures { IfOk result (λ bytes. vec_len bytes ≡ len) }
-{
-    Ok(vec![in alloc; 0; len]?)
+    ghost within: { end ≤ record_most },
 }
 
 impl RecordBuffer {
@@ -66,11 +59,11 @@ impl RecordBuffer {
 
     /// Reads as much as there is room for, and answers how many bytes these were: none only at the end.
     pub(crate) fn read_from<S: Source>(&mut self, source: &mut S) -> Result<usize, Failed>
-        requires { length (held_bytes self.old) < RECORD_MAX }
+        requires { length (held_bytes self.old) < record_most }
         ensures kept { Stays (bytes_ahead (held_bytes self.old) (S.left source.old))
             (bytes_ahead (held_bytes self.new) (S.left source.new)) }
         ensures more { IfOk result (λ n. length (held_bytes self.new) ≡ length (held_bytes self.old) + n) }
-        ensures most { length (held_bytes self.new) ≤ RECORD_MAX }
+        ensures most { length (held_bytes self.new) ≤ record_most }
         ensures end { IfOk result (λ n. n ≡ 0 →
             (held_bytes self.new ≡ held_bytes self.old) × EndsAt (S.left source.new)) }
         ensures cause { HasCause (S.faults source.old) (S.faults source.new) result }

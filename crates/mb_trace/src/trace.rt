@@ -1,6 +1,6 @@
-ghost use Rattle.std.specs.Prelude.{◌≡◌, ℕ, List, Option, ◌+◌, ◌^◌, ◌<◌, ◌≤◌, ◌++◌, length, IfSome, IfNone, OnOk, OnErr};
-ghost use Rattle.mb_outside.specs.Broadcast.{Record};
-ghost use Rattle.mb_trace.specs.Trace.{record_bytes, IsWhole, IsPart, TracesAreRead};
+ghost use Rattle.std.specs.Prelude.{◌≡◌, ℕ, List, Option, ◌+◌, ◌<◌, ◌≤◌, ◌++◌, length, IfSome, IfNone, OnOk, OnErr};
+ghost use Rattle.mb_outside.specs.Broadcast.{Record, datagram_most};
+ghost use Rattle.mb_trace.specs.Trace.{record_bytes, moments_end, IsWhole, IsPart, TracesAreRead};
 
 use crate::number::{be16, put_be16, put_be48};
 use mb_outside::{DATAGRAM_MAX, Memory};
@@ -15,8 +15,8 @@ pub(crate) const RECORD_MAX: usize = HEADER + DATAGRAM_MAX;
 /// bits, the datagram's length in 16, and the datagram. `Memory` where there is no room for all of it; the
 /// bytes are then as before.
 pub fn trace_bytes(at: u64, datagram: &[u8], out: &mut Vec<u8>) -> Result<(), Memory>
-    requires moment { at < 2 ^ 48 }
-    requires length { length datagram.now ≤ DATAGRAM_MAX }
+    requires moment { at < moments_end }
+    requires length { length datagram.now ≤ datagram_most }
     ensures appended { OnOk result
         (out.new.items ≡ out.old.items ++ record_bytes (record { at = at; bytes = datagram.now })) }
     ensures kept { OnErr result (out.new.items ≡ out.old.items) }

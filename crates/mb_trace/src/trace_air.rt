@@ -1,8 +1,9 @@
-ghost use Rattle.std.specs.Prelude.{◌≡◌, ℕ, List, ◌^◌, ◌<◌, Option, None, Some, length, option_map, IfOk};
-ghost use Rattle.mb_trace.specs.Trace.{records_of, broken_of, trace_broadcast};
+ghost use Rattle.std.specs.Prelude.{◌≡◌, ℕ, List, ◌≤◌, Option, None, Some, length, option_map, IfOk};
+ghost use Rattle.mb_trace.specs.Trace.{trace_broadcast, TellsTrace};
+ghost use Rattle.mb_outside.specs.Outside.{count_most};
 
 use crate::TraceReader;
-use mb_outside::{Air, AirEvent, Memory, Source};
+use mb_outside::{Air, AirEvent, DatagramBuffer, Memory, Source};
 use std::alloc::Global;
 
 /// The air that a packet trace tells of, which is read from a source as it is asked for. Moments are NTP
@@ -25,9 +26,8 @@ impl<S: Source + Drop> TraceAir<S> {
     pub fn new(alloc: Global, source: S) -> Result<TraceAir<S>, Memory>
         ensures told { IfOk result (λ air. ⟦<TraceAir<S> as Air>⟧.broadcast air
             ≡ option_map (trace_broadcast 0 None) (S.left source)) }
-        ensures exact { (bytes : List ℕ) → S.left source ≡ Some bytes → length bytes < 2 ^ 64
-            → IfOk result (λ air. ⟦<TraceAir<S> as Air>⟧.broadcast air
-            ≡ Some (record { records = records_of bytes; broken = broken_of bytes; rested = None })) }
+        ensures trace { (bytes : List ℕ) → S.left source ≡ Some bytes → length bytes ≤ count_most
+            → IfOk result (λ air. TellsTrace bytes None (⟦<TraceAir<S> as Air>⟧.broadcast air)) }
         ensures faults { IfOk result (λ air. ⟦<TraceAir<S> as Air>⟧.faults air ≡ S.faults source) }
         ensures made { IfOk result (λ air. ⟦<TraceAir<S> as Air>⟧.made air ≡ S.made source) }
     {
@@ -51,7 +51,7 @@ impl<S: Source> Air for TraceAir<S> {
 
     ghost faults = { λ air. S.faults air.source };
 
-    fn next(&mut self, until: u64, buf: &mut [u8]) -> AirEvent {
+    fn next(&mut self, until: u64, buf: &mut DatagramBuffer) -> AirEvent {
         self.reader.next(&mut self.source, until, buf)
     }
 

@@ -1,13 +1,13 @@
-ghost use Rattle.std.specs.Prelude.{◌≡◌, ◌≢◌, ℕ, List, ◌++◌, ◌^◌, ◌<◌, Option, true, length, option_map, IfOk, IfSome, IfNone};
-ghost use Rattle.mb_outside.specs.Outside.{Becomes, HasCause, Stays, EndsAt};
+ghost use Rattle.std.specs.Prelude.{◌≡◌, ◌≢◌, ℕ, List, ◌++◌, ◌<◌, ◌≤◌, Option, Some, true, length, option_map, IfOk, IfSome, IfNone};
+ghost use Rattle.mb_outside.specs.Outside.{AreBytes, Becomes, HasCause, Stays, EndsAt, count_most};
 ghost use Rattle.mb_outside.specs.Broadcast.{Hears, IsWithin, EventCause};
 ghost use Rattle.mb_trace.specs.RecordBuffer.{held_bytes};
-ghost use Rattle.mb_trace.specs.Trace.{trace_broadcast, bytes_ahead, has_record, IsWhole, IsPart};
+ghost use Rattle.mb_trace.specs.Trace.{trace_broadcast, bytes_ahead, has_record, moments_end, IsWhole, IsPart, TellsTrace};
 
 use crate::number::be48;
 use crate::record_buffer::RecordBuffer;
 use crate::trace::{HEADER, whole_record};
-use mb_outside::{AirEvent, DATAGRAM_MAX, Failed, Memory, Source};
+use mb_outside::{AirEvent, DatagramBuffer, Failed, Memory, Source};
 use std::alloc::Global;
 
 /// A reader of a packet trace, which is lent the source of the trace at each call. It takes room for one
@@ -25,8 +25,10 @@ impl TraceReader {
 
     /// A reader that has read nothing. `Memory` where there is no room for a record.
     pub fn new(alloc: Global) -> Result<TraceReader, Memory>
-        ensures { IfOk result (λ reader. (rested : Option ℕ) (left : Option (List ℕ))
+        ensures ahead { IfOk result (λ reader. (rested : Option ℕ) (left : Option (List ℕ))
             → ahead_of reader rested left ≡ option_map (trace_broadcast 0 rested) left) }
+        ensures trace { IfOk result (λ reader. (rested : Option ℕ) (bytes : List ℕ) → AreBytes bytes
+            → length bytes ≤ count_most → TellsTrace bytes rested (ahead_of reader rested (Some bytes))) }
     {
         let held = RecordBuffer::new(alloc)?;
         Ok(TraceReader { held, place: 0 })
@@ -42,14 +44,18 @@ impl TraceReader {
     /// Takes the next record of the trace, if its moment is at most `until`, and moves its bytes into the
     /// front of `buf`, as `Air::next` does. It answers `Failed` exactly where the source fails in this call:
     /// what was read before stays for the next one.
-    pub fn next<S: Source>(&mut self, source: &mut S, until: u64, buf: &mut [u8]) -> AirEvent
-        requires { length buf.old ≡ DATAGRAM_MAX }
+    pub fn next<S: Source>(
+        &mut self,
+        source: &mut S,
+        until: u64,
+        buf: &mut DatagramBuffer,
+    ) -> AirEvent
         ensures within { IsWithin until result }
         ensures heard { (rested : Option ℕ) → Becomes (ahead_of self.old rested (S.left source.old))
             (ahead_of self.new rested (S.left source.new)) (Hears until result buf.new) }
         ensures unread { holds_record self.old ≡ true → source.new ≡ source.old }
         // No moment is past the last that a record can have.
-        ensures quiet { result ≡ AirEvent.Quiet → until < 2 ^ 48 }
+        ensures quiet { result ≡ AirEvent.Quiet → until < moments_end }
         ensures cause { EventCause (S.faults source.old) (S.faults source.new) result }
         ensures same { S.made source.new ≡ S.made source.old }
     {
@@ -62,10 +68,7 @@ impl TraceReader {
 }
 
 /// Reads until a whole record is held, and answers its size, or `None` where the source ends before.
-fn fill_record<S: Source>(
-    held: &mut RecordBuffer,
-    source: &mut S,
-) -> Result<Option<usize>, Failed>
+fn fill_record<S: Source>(held: &mut RecordBuffer, source: &mut S) -> Result<Option<usize>, Failed>
     ensures kept { Stays (bytes_ahead (held_bytes held.old) (S.left source.old))
         (bytes_ahead (held_bytes held.new) (S.left source.new)) }
     ensures whole { IfOk result (λ found. IfSome found (λ size. IsWhole size (held_bytes held.new))) }
@@ -90,15 +93,14 @@ fn give(
     place: &mut u64,
     size: usize,
     until: u64,
-    buf: &mut [u8],
+    buf: &mut DatagramBuffer,
 ) -> AirEvent
-    requires whole { IsWhole size (held_bytes held.old) }
-    requires room { length buf.old ≡ DATAGRAM_MAX }
+    requires { IsWhole size (held_bytes held.old) }
     ensures within { IsWithin until result }
     ensures heard { (rested : Option ℕ) (later : List ℕ) → Hears until result buf.new
         (trace_broadcast place.old rested (held_bytes held.old ++ later))
         (trace_broadcast place.new rested (held_bytes held.new ++ later)) }
-    ensures quiet { result ≡ AirEvent.Quiet → until < 2 ^ 48 }
+    ensures quiet { result ≡ AirEvent.Quiet → until < moments_end }
     ensures cause { (count : ℕ) → EventCause count count result }
 {
     let record = held.as_slice();
@@ -107,7 +109,7 @@ fn give(
         return AirEvent::Quiet;
     }
     let len = size - HEADER;
-    buf[..len].copy_from_slice(&record[HEADER..size]);
+    buf.put(&record[HEADER..size]);
     held.skip(size);
     *place = place.saturating_add(size as u64);
     AirEvent::Datagram { at, len }

@@ -1,8 +1,7 @@
 ghost use Rattle.std.specs.Prelude.{◌≡◌, ℕ, ◌^◌, ◌<◌, ◌≤◌, None, length, vec_len};
 
 use super::*;
-use crate::record_buffer::room;
-use mb_outside::{Air, AirEvent, DATAGRAM_MAX, Failed, Memory, Source};
+use mb_outside::{Air, AirEvent, DATAGRAM_MAX, DatagramBuffer, Failed, Memory, Source, room};
 use std::alloc::Global;
 use std::test::*;
 
@@ -39,14 +38,15 @@ impl Source for Pieces {
         self.place += count;
         Ok(count)
     }
+
+    ghost bytes = { λ _. tt };
 }
 
 /// An air with room for its datagrams.
 #[derive(Drop)]
 struct Listener {
     air: TraceAir<Pieces>,
-    buf: Vec<u8>,
-    ghost room: { vec_len buf ≡ 65535 },
+    buf: DatagramBuffer,
 }
 
 impl Listener {
@@ -55,7 +55,7 @@ impl Listener {
     }
 
     fn holds(&self, datagram: &[u8]) -> bool {
-        datagram.len() <= DATAGRAM_MAX && &self.buf[..datagram.len()] == datagram
+        datagram.len() <= DATAGRAM_MAX && self.buf.front(datagram.len()) == datagram
     }
 }
 
@@ -71,7 +71,7 @@ fn listen(alloc: Global, trace: &[u8], piece: usize, failing: u64) -> Result<Lis
         faults: 0,
     };
     let air = TraceAir::new(alloc, source)?;
-    let buf = room(alloc, DATAGRAM_MAX)?;
+    let buf = DatagramBuffer::new(alloc)?;
     Ok(Listener { air, buf })
 }
 

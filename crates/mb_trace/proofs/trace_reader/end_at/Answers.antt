@@ -15,4 +15,4 @@ returns-else-is_empty-clause-heard c =
     let bytes = c.args.bytes.now in
     let other = eqb-false _ _ (sym c.if-is_empty.ensures) in
     let some : 0 < length bytes = omega (arith, other) in
-    λ until rested buf. (records_of-none bytes c.requires.none, cut c.args.place bytes c.requires some c.ranges.place.fits, refl)
+    λ until rested buf. (records_of-none bytes c.requires.none, cut c.args.place bytes c.requires some (omega (arith, c.ranges.place.fits)), refl)

@@ -1,7 +1,7 @@
 use Rattle.std.proofs.Common.{◌≡◌, ◌-◌, length, true}
 use Rattle.mb_outside.specs.Outside.{Stays}
 use Rattle.mb_trace.specs.RecordBuffer.{held_bytes}
-use Rattle.mb_trace.specs.Trace.{bytes_ahead, has_record}
+use Rattle.mb_trace.specs.Trace.{bytes_ahead, has_record, record_most}
 use Rattle.mb_trace.proofs.trace_reader.fill_record.Given as goal
 
 abbrev pub invariant-reads : goal.invariant-reads
@@ -13,4 +13,4 @@ invariant-reads g l = record {
 }
 
 abbrev pub decreases-reads : goal.decreases-reads
-decreases-reads g l = 65543 - length (held_bytes l.held)
+decreases-reads g l = record_most - length (held_bytes l.held)

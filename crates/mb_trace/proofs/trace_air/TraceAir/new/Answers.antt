@@ -1,15 +1,12 @@
-use Rattle.std.proofs.Common.{ℕ, List, Option, Some, None, ap, ◌∙◌}
-use Rattle.std.specs.Prelude.{option_map}
-use Rattle.mb_outside.specs.Broadcast.{Broadcast}
-use Rattle.mb_trace.specs.Trace.{records_of, trace_broadcast}
-use Rattle.mb_trace.proofs.TraceLemmas.{told_place-exact}
+use Rattle.std.proofs.Common.{ℕ, List, Option, None, sym, subst}
+use Rattle.mb_outside.specs.Outside.{AreToldBytes}
+use Rattle.mb_trace.specs.Trace.{TellsTrace}
+use Rattle.mb_trace.specs.TraceReader.{ahead_of}
 use Rattle.mb_trace.proofs.trace_air.TraceAir.new.Goals as goal
 
-abbrev unrested : List ℕ → Option ℕ → Broadcast
-unrested bytes broken = record { records = records_of bytes; broken = broken; rested = None }
-
-pub returns-clause-exact : goal.returns-clause-exact
-returns-clause-exact g c =
+pub returns-clause-trace : goal.returns-clause-trace
+returns-clause-trace g c =
     λ bytes told short.
-    c.in_ok-reader.ensures None (g.S.Source.left c.args.source) ∙ ap (λ left. option_map (trace_broadcast 0 None) left) told
-    ∙ ap (λ broken. Some (unrested bytes broken)) (told_place-exact bytes short)
+    let all = subst AreToldBytes told (g.met.S.Source.bytes c.args.source) in
+    subst (λ (left : Option (List ℕ)). TellsTrace bytes None (ahead_of c.in_ok-reader.reader None left)) (sym told)
+    (c.in_ok-reader.ensures.trace None bytes all short)
