@@ -1,4 +1,5 @@
--- The LCT header (RFC 3451 section 5.1): where each field stands in a datagram, and what a header says.
+-- The LCT header (RFC 3451 section 5.1) as a function: where each field stands in a datagram, and what they say.
+-- `Header` says the same by the fields one after another.
 use Rattle.std.specs.Prelude.{◌≡◌, ℕ, ◌+◌, ◌*◌, ◌/◌, ◌%◌, ◌<◌, ◌≤◌, ◌==◌, ◌||◌, Bool, not, nat_lt, if◌then◌else◌, List, length, slice_index, slice_range, Option, Some, None, Result, Ok, Err}
 use Rattle.mb_base.specs.Number.{be_number}
 use Rattle.mb_lct.specs.declared.head.LctHead.{LctHead}
@@ -96,15 +97,6 @@ head_of bytes = record {
   ext_at = ext_at bytes;
   end = end_at bytes;
 }
-
--- a datagram begins with a header that says this
-pub record IsLct (bytes : List ℕ) (head : LctHead) : Type 0 where
-  pub first_word : 4 ≤ length bytes
-  pub whole : end_at bytes ≤ length bytes
-  pub version : version bytes ≡ 1
-  pub fields : ext_at bytes ≤ end_at bytes
-  pub session : tsi_at bytes < toi_at bytes
-  pub says : head ≡ head_of bytes
 
 -- the header at the front, or its fault: the first of these conditions that holds
 unfoldable pub lct_of : List ℕ → Result LctHead LctFault

@@ -1,6 +1,7 @@
-ghost use Rattle.std.specs.Prelude.{◌≡◌, ◌+◌, ◌*◌, ◌^◌, ◌<◌, ◌≤◌, length, IfOk, IfSome};
+ghost use Rattle.std.specs.Prelude.{◌≡◌, ◌+◌, ◌*◌, ◌^◌, ◌<◌, ◌≤◌, ◌↔◌, length, Ok, Err, IfOk, IfSome};
 ghost use Rattle.mb_lct.specs.Lct as lct;
-ghost use Rattle.mb_lct.specs.Lct.{IsLct, lct_of, head_of, version};
+ghost use Rattle.mb_lct.specs.Header.{IsLct, IsLctFault};
+ghost use Rattle.mb_lct.specs.Lct.{lct_of, head_of, version};
 
 use crate::field::{read_toi, read_tsi};
 use crate::head::*;
@@ -75,18 +76,10 @@ fn head_at(bytes: &[u8], places: &Places) -> LctHead
     }
 }
 
-/// Reads the LCT header at the front of a datagram (RFC 3451 section 5.1). Its extensions are the bytes
-/// from `ext_at` to `end`. The CCI, the times and the reserved bits are not read.
-///
-/// The faults, the first that holds:
-/// - `Short`: there are fewer than four bytes, or fewer than the header has by its length field.
-/// - `Version`: the version, where it is not 1.
-/// - `HeaderLength`: the header ends before its fields do.
-/// - `NoTsi`: the TSI has no bits.
+/// The header by where its fields stand, or the first fault.
 #[tactic(auto, unfolding(crate::specs::Lct::lct_of))]
-pub fn read_lct(bytes: &[u8]) -> Result<LctHead, LctFault>
+fn header_in(bytes: &[u8]) -> Result<LctHead, LctFault>
     ensures exact { result ≡ lct_of bytes.now }
-    ensures found { IfOk result (λ head. IsLct bytes.now head) }
     ensures tsi { IfOk result (λ head. head.lct.tsi < 2 ^ 48) }
     ensures toi { IfOk result (λ head. IfSome head.lct.toi (λ toi. toi < 2 ^ 112)) }
     ensures extensions { IfOk result (λ head. head.ext_at ≤ head.end) }
@@ -110,4 +103,24 @@ pub fn read_lct(bytes: &[u8]) -> Result<LctHead, LctFault>
         return Err(LctFault::NoTsi);
     }
     Ok(head_at(bytes, &places))
+}
+
+/// Reads the LCT header at the front of a datagram (RFC 3451 section 5.1). Its extensions are the bytes
+/// from `ext_at` to `end`. The CCI, the times and the reserved bits are not read.
+///
+/// The faults, the first that holds:
+/// - `Short`: there are fewer than four bytes, or fewer than the header has by its length field.
+/// - `Version`: the version, where it is not 1.
+/// - `HeaderLength`: the header ends before its fields do.
+/// - `NoTsi`: the TSI has no bits.
+pub fn read_lct(bytes: &[u8]) -> Result<LctHead, LctFault>
+    ensures exact { result ≡ lct_of bytes.now }
+    ensures found { (head : LctHead) → IsLct bytes.now head ↔ (result ≡ Ok head) }
+    ensures refused { (fault : LctFault) → IsLctFault bytes.now fault ↔ (result ≡ Err fault) }
+    ensures tsi { IfOk result (λ head. head.lct.tsi < 2 ^ 48) }
+    ensures toi { IfOk result (λ head. IfSome head.lct.toi (λ toi. toi < 2 ^ 112)) }
+    ensures extensions { IfOk result (λ head. head.ext_at ≤ head.end) }
+    ensures within { IfOk result (λ head. head.end ≤ length bytes.now) }
+{
+    header_in(bytes)
 }

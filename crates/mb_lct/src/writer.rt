@@ -1,6 +1,6 @@
 ghost use Rattle.std.specs.Prelude.{◌≡◌, ◌+◌, ◌*◌, ◌^◌, ◌<◌, ◌≤◌, ◌++◌, true, false, Some, ◌↔◌, IsTrue, OnOk, OnErr, vec_len, vec_capacity};
 ghost use Rattle.mb_lct.specs.Written as written;
-ghost use Rattle.mb_lct.specs.Written.{FitsHeader, lct_bytes, words_of};
+ghost use Rattle.mb_lct.specs.Written.{FitsHeader, IsWritten, lct_bytes, words_of};
 
 use crate::field::put_number;
 use crate::head::*;
@@ -116,6 +116,7 @@ pub fn fits_header(lct: &Lct, ext_words: u8) -> bool
 pub fn write_lct(lct: &Lct, ext_words: u8, out: &mut Vec<u8>) -> Result<(), Memory>
     requires { FitsHeader lct.now ext_words }
     ensures appended { OnOk result (out.new.items ≡ out.old.items ++ lct_bytes lct.now ext_words) }
+    ensures written { OnOk result (IsWritten lct.now ext_words (lct_bytes lct.now ext_words)) }
     ensures kept { OnErr result (out.new.items ≡ out.old.items) }
     ensures full { OnErr result (vec_capacity out.old < vec_len out.old + 4 * words_of lct.now) }
     ensures room { vec_capacity out.old ≤ vec_capacity out.new }

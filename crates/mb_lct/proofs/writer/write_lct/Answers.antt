@@ -3,7 +3,7 @@ use Rattle.std.specs.Int.{from_bool}
 use Rattle.mb_base.specs.Number.{be_bytes}
 use Rattle.mb_base.proofs.NumberLemmas.{length-be_bytes}
 use Rattle.mb_lct.specs.Written.{half_of, toi_words, toi_words_of, toi_width}
-use Rattle.mb_lct.proofs.WriteLemmas.{appended, first-is}
+use Rattle.mb_lct.proofs.WriteLemmas.{appended, first-is, headers_written}
 use Rattle.mb_lct.proofs.writer.write_lct.Goals as goal
 
 pub returns-in_err-put_number-2-clause-kept : goal.returns-in_err-put_number-2-clause-kept
@@ -60,3 +60,6 @@ returns-clause-appended c =
     (first-is lct c.args.ext_words _ _ c.from.result c.from-2.result half words c.from.ensures c.from-2.ensures)
     (ap₂ (λ h n. be_bytes (4 + 2 * h) n) (c.from-half_bytes.ensures ∙ half) c.from-4.ensures)
     (ap₂ be_bytes width c.unwrap_or.ensures)
+
+pub returns-clause-written : goal.returns-clause-written
+returns-clause-written c = headers_written c.args.lct.now c.args.ext_words c.requires
