@@ -1,5 +1,5 @@
 -- Lemmas on a header's fields: those of its first word, and the parts of its bytes.
-use Rattle.std.proofs.Common.{◌≡◌, ℕ, ◌+◌, ◌-◌, ◌*◌, ◌/◌, ◌%◌, ◌<◌, ◌≤◌, ◌==◌, Bool, true, false, if◌then◌else◌, Fits, w8, List, [], ◌∷◌, ◌++◌, length, get_or, take, drop, Option, Some, None, refl, sym, ap, ap₂, subst, ◌∙◌, arith, append_assoc, length-append, length-take-le, length-drop, drop-drop}
+use Rattle.std.proofs.Common.{◌≡◌, ℕ, ◌+◌, ◌-◌, ◌*◌, ◌/◌, ◌%◌, ◌<◌, ◌≤◌, ◌==◌, Bool, true, false, if◌then◌else◌, Fits, w8, List, [], ◌∷◌, ◌++◌, length, get_or, take, drop, Some, None, refl, sym, ap, ap₂, subst, ◌∙◌, arith, length-append, length-take-le, length-drop, drop-drop}
 use Rattle.std.proofs.lemmas.List.{take-append-drop}
 use Rattle.std.proofs.lemmas.Grind.{common_steps}
 use Rattle.std.proofs.Math.Seq.{take-append_seam, drop-append_seam}
@@ -7,7 +7,7 @@ use Rattle.std.proofs.lemmas.List.Elements.{All-head, All-tail, All-from_get_or}
 use Rattle.std.specs.Int.{from_bool}
 use Rattle.std.specs.List.{slice_range}
 use Rattle.mb_base.specs.Number.{AreBytes, be_number}
-use Rattle.mb_lct.specs.Header.{FirstWord, first_byte, second_byte, first_word, IsFirstWord, BeginsWith, number_in}
+use Rattle.mb_lct.specs.Header.{FirstWord, second_byte, first_word, IsFirstWord, BeginsWith, number_in}
 use Rattle.mb_lct.specs.Lct.{version, congestion_flag, tsi_flag, toi_flag, half_word_flag, current_time_flag, residual_time_flag, close_session, close_object, header_length, codepoint}
 
 pub true-same : (a b : ℕ) → a ≡ b → (a == b) ≡ true
@@ -150,7 +150,7 @@ between xs ys zs a b start end =
 pub size-between : (bytes : List ℕ) (a b : ℕ) → a ≤ b → b ≤ length bytes → length (slice_range bytes a b) ≡ b - a
 size-between bytes a b le within = length-take-le (b - a) (drop a bytes) (omega (arith, length-drop a bytes))
 
--- what stands from one place on is what stands up to another, and the rest
+-- what stands from one offset on is what stands up to another, and the rest
 pub cut : (bytes : List ℕ) (a b : ℕ) → a ≤ b → drop a bytes ≡ slice_range bytes a b ++ drop b bytes
 cut bytes a b le =
     let same : a + (b - a) ≡ b = omega arith in

@@ -1,9 +1,9 @@
 -- Lemmas on the reading of a header: it is one exactly where `lct_of` finds it.
-use Rattle.std.proofs.Common.{◌≡◌, ◌≢◌, ℕ, ◌+◌, ◌*◌, ◌<◌, ◌≤◌, ◌==◌, ◌||◌, Bool, true, false, not, nat_lt, if◌then◌else◌, List, ◌++◌, length, get_or, ◌↔◌, Fits, w8, drop, Option, Some, None, Result, Ok, Err, IfOk, IfErr, inl, inr, refl, sym, ap, ap₂, subst, ◌∙◌, arith, append_assoc, length-append, length-drop}
+use Rattle.std.proofs.Common.{◌≡◌, ◌≢◌, ℕ, ◌+◌, ◌<◌, ◌≤◌, ◌==◌, ◌||◌, Bool, true, false, not, nat_lt, if◌then◌else◌, List, ◌++◌, length, get_or, ◌↔◌, Fits, w8, drop, Option, Some, None, Result, Ok, Err, inl, inr, refl, sym, ap, subst, ◌∙◌, arith, append_assoc, length-append}
 use Rattle.std.proofs.lemmas.Grind.{common_steps}
 use Rattle.std.specs.List.{slice_range}
 use Rattle.mb_base.specs.Number.{AreBytes, be_number}
-use Rattle.mb_lct.specs.Header.{FirstWord, first_word, fields_size, tsi_size, Header, field_bytes, header_bytes, IsHeader, number_in, head_in, IsLct, BeginsWith, HasWhole, IsLctFault}
+use Rattle.mb_lct.specs.Header.{FirstWord, first_word, fields_size, Header, field_bytes, header_bytes, IsHeader, number_in, IsLct, HasWhole, IsLctFault}
 use Rattle.mb_lct.specs.Lct.{lct_of, head_of, toi_of, version, tsi_at, toi_at, times_at, ext_at, end_at, number_between}
 use Rattle.mb_lct.specs.declared.head.LctHead.{LctHead}
 use Rattle.mb_lct.specs.declared.head.LctFault.{LctFault}

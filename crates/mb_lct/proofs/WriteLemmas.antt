@@ -1,14 +1,14 @@
 -- Lemmas on the writing of a header: what it appends, and that it is read back.
-use Rattle.std.proofs.Common.{◌≡◌, ℕ, ◌+◌, ◌-◌, ◌*◌, ◌/◌, ◌%◌, ◌^◌, ◌<◌, ◌≤◌, ◌==◌, ◌||◌, Bool, true, false, nat_lt, nat_le, if◌then◌else◌, List, [], ◌∷◌, ◌++◌, length, take, drop, Option, Some, None, unwrap_or, IfNone, Ok, ◌↔◌, inl, inr, refl, sym, subst, ap, ap₂, ◌∙◌, arith, append_assoc, length-append, length-take-le}
+use Rattle.std.proofs.Common.{◌≡◌, ℕ, ◌+◌, ◌*◌, ◌^◌, ◌<◌, ◌≤◌, ◌||◌, Bool, true, false, nat_lt, nat_le, if◌then◌else◌, List, [], ◌∷◌, ◌++◌, length, take, drop, Option, Some, None, unwrap_or, IfNone, Ok, ◌↔◌, inl, inr, refl, sym, subst, ap, ap₂, ◌∙◌, arith, append_assoc, length-append, length-take-le}
 use Rattle.std.proofs.lemmas.Grind.{common_steps}
 use Rattle.std.proofs.lemmas.List.{take-append-drop}
 use Rattle.std.proofs.lemmas.Bool.{cases_lt}
 use Rattle.std.specs.Int.{from_bool}
-use Rattle.mb_base.specs.Number.{be_number, be_bytes}
+use Rattle.mb_base.specs.Number.{be_bytes}
 use Rattle.mb_base.proofs.NumberLemmas.{numbers_read_back, be_bytes-nil, length-be_bytes}
 use Rattle.mb_lct.specs.declared.head.Lct.{Lct}
 use Rattle.mb_lct.specs.Header.{first_word, Header, field_bytes, number_in}
-use Rattle.mb_lct.specs.Written.{FitsHeader, lct_bytes, first_bytes, has_half, half_of, toi_words, toi_words_of, words_of, tsi_width, toi_width}
+use Rattle.mb_lct.specs.Written.{lct_bytes, first_bytes, has_half, half_of, toi_words, toi_words_of, words_of, tsi_width, toi_width}
 use Rattle.mb_lct.specs.Laws.{HeadersAreWritten, HeadersAreReadBack, WordsAreFewest, HeadersAreShort}
 use Rattle.mb_lct.proofs.HeaderLemmas.{bit-most, length-fields, number-some}
 use Rattle.mb_lct.proofs.ReadLemmas.{head-same, lct-Ok, not_lt, lt-true}
@@ -205,11 +205,11 @@ appended lct ext_words old one two three bytes tsi toi one_is two_is three_is by
     (ap (λ l. l ++ be_bytes (toi_width lct) (unwrap_or lct.toi 0)) (append_assoc old (first_bytes lct ext_words) (be_bytes (tsi_width lct) lct.tsi))
     ∙ append_assoc old (first_bytes lct ext_words ++ be_bytes (tsi_width lct) lct.tsi) (be_bytes (toi_width lct) (unwrap_or lct.toi 0)))
 
-pub first-is : (lct : Lct) (ext_words half words session object : ℕ) → half ≡ half_of lct → words ≡ toi_words_of lct
+pub first-is : (lct : Lct) (ext_words half words count session object : ℕ) → half ≡ half_of lct → words ≡ toi_words_of lct → count ≡ words_of lct
     → session ≡ from_bool lct.close_session → object ≡ from_bool lct.close_object
-    → 16 ∷ (128 + 32 * words + 16 * half + (session * 2 + object)) ∷ (3 + words + half + ext_words) ∷ lct.cp ∷ 0 ∷ 0 ∷ 0 ∷ 0 ∷ []
+    → 16 ∷ (128 + 32 * words + 16 * half + (session * 2 + object)) ∷ (count + ext_words) ∷ lct.cp ∷ 0 ∷ 0 ∷ 0 ∷ 0 ∷ []
     ≡ first_bytes lct ext_words
-first-is lct ext_words half words session object h o a b =
+first-is lct ext_words half words count session object h o n a b =
     ap₂ (λ f w. 16 ∷ f ∷ w ∷ lct.cp ∷ 0 ∷ 0 ∷ 0 ∷ 0 ∷ []) (omega arith) (omega arith)
 
 -- ---- the fewest words

@@ -1,6 +1,6 @@
 -- The LCT header (RFC 3451 section 5.1) as its fields one after another, each with its own bytes: what it says, and
 -- why another datagram has none.
-use Rattle.std.specs.Prelude.{◌≡◌, ◌≢◌, ◌⊎◌, ℕ, ◌+◌, ◌*◌, ◌<◌, ◌≤◌, ◌==◌, Bool, List, [], ◌∷◌, ◌++◌, length, Option, Some, None}
+use Rattle.std.specs.Prelude.{◌≡◌, ◌≢◌, ◌⊎◌, ℕ, ◌+◌, ◌*◌, ◌<◌, ◌≤◌, Bool, List, [], ◌∷◌, ◌++◌, length, Option, Some, None}
 use Rattle.std.specs.Int.{from_bool}
 use Rattle.mb_base.specs.Number.{be_number}
 use Rattle.mb_lct.specs.declared.head.LctHead.{LctHead}
