@@ -1,5 +1,5 @@
 -- Lemmas on the reading of a header: it is one exactly where `lct_of` finds it.
-use Rattle.std.proofs.Common.{◌≡◌, ◌≢◌, ℕ, ◌+◌, ◌<◌, ◌≤◌, ◌==◌, ◌||◌, Bool, true, false, not, nat_lt, if◌then◌else◌, List, ◌++◌, length, get_or, ◌↔◌, Fits, w8, drop, Option, Some, None, Result, Ok, Err, inl, inr, refl, sym, ap, subst, ◌∙◌, arith, append_assoc, length-append}
+use Rattle.std.proofs.Common.{◌≡◌, ◌≢◌, ℕ, ◌+◌, ◌%◌, ◌<◌, ◌≤◌, ◌==◌, ◌||◌, Bool, true, false, not, nat_lt, if◌then◌else◌, List, ◌++◌, length, get_or, ◌↔◌, Fits, w8, drop, Option, Some, None, Result, Ok, Err, inl, inr, refl, sym, ap, subst, ◌∙◌, arith, append_assoc, length-append}
 use Rattle.std.proofs.lemmas.Grind.{common_steps}
 use Rattle.std.specs.List.{slice_range}
 use Rattle.mb_base.specs.Number.{AreBytes, be_number}
@@ -276,3 +276,14 @@ pub answered_fault : (bytes : List ℕ) (result : Result LctHead LctFault) → (
 answered_fault bytes result each exact fault =
     let law = header_faults_first bytes fault (are_bytes bytes each) in
     (λ is. exact ∙ law.0 is, λ is. law.1 (sym exact ∙ is))
+
+-- the extensions are whole words
+pub area_words : (bytes : List ℕ) (head : LctHead) → IsLct bytes head → head.ext_at ≤ head.end → head.end ≤ length bytes
+    → length (slice_range bytes head.ext_at head.end) % 4 ≡ 0
+area_words bytes head is le within =
+    let h = is.header in
+    let start : head.ext_at ≡ length (field_bytes h) = ap (λ (x : LctHead). x.ext_at) is.says in
+    let end : head.end ≡ length (header_bytes h) = ap (λ (x : LctHead). x.end) is.says in
+    let fields = length-fields (first_word h.word) h.cci h.tsi h.toi h.times in
+    let size = size-between bytes head.ext_at head.end le within in
+    omega (arith, is.is.cci, is.is.tsi, is.is.toi, is.is.times, is.is.whole)
