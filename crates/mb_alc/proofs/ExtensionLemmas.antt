@@ -1,5 +1,5 @@
 -- Lemmas on header extensions: an area is read in one way.
-use Rattle.std.proofs.Common.{◌≡◌, ℕ, zero, suc, ◌+◌, ◌*◌, ◌/◌, ◌%◌, ◌<◌, ◌≤◌, ◌==◌, ◌&&◌, not, nat_lt, cond, Bool, true, false, List, [], ◌∷◌, ◌++◌, length, take, drop, slice_index, Option, Some, None, option_map, Result, Ok, Err, IfErr, refl, sym, ap, ap₂, subst, ◌∙◌, arith, length-append, length-take-le, length-drop, append_assoc, append-nil}
+use Rattle.std.proofs.Common.{◌≡◌, ℕ, zero, suc, ◌+◌, ◌*◌, ◌/◌, ◌%◌, ◌<◌, ◌≤◌, ◌==◌, ◌&&◌, not, nat_lt, cond, Bool, true, false, List, [], ◌∷◌, ◌++◌, length, take, drop, slice_index, Option, Some, None, option_map, Result, Ok, Err, get_or, ◌↔◌, Fits, w8, refl, sym, ap, ap₂, subst, ◌∙◌, arith, length-append, length-take-le, length-drop, append_assoc, append-nil}
 use Rattle.std.specs.List.{AllByRecursion, concat}
 use Rattle.std.specs.Option.{option_or}
 use Rattle.std.proofs.lemmas.Grind.{common_steps}
@@ -7,10 +7,20 @@ use Rattle.std.proofs.lemmas.List.{take_at, drop_at, nil_from_length, take-appen
 use Rattle.std.proofs.Math.Seq.{take-add}
 use Rattle.std.proofs.lemmas.List.Folds.{find-append, concat-append}
 use Rattle.mb_alc.specs.Extensions.{IsExtension, IsExts, IsExtsFault, het, hel, extension_size, flute_version, front_fault, first_of, exts_in, instance_id, fti_of, algorithm, extensions_in, before, said, exts_of}
+use Rattle.mb_base.specs.Number.{AreBytes}
+use Rattle.mb_lct.proofs.HeaderLemmas.{are_bytes}
 use Rattle.mb_alc.specs.Laws.{ExtensionsAreFound, ExtensionFaultsAreFirst}
+use Rattle.mb_alc.proofs.PartLemmas.{fdt-function, fti-function, cenc-function, function-fdt, function-fti, function-cenc, each-bytes}
 use Rattle.mb_alc.specs.declared.packet.Exts.{Exts}
 use Rattle.mb_alc.specs.declared.packet.Fti.{Fti}
 use Rattle.mb_alc.specs.declared.fault.ExtFault.{ExtFault}
+
+-- the area is a list of extensions, joined, and `exts_in` gives what they say
+pub record AreExts (area : List ℕ) (exts : Exts) : Type 0 where
+  pub extensions : List (List ℕ)
+  pub joined : area ≡ concat extensions
+  pub each : AllByRecursion IsExtension extensions
+  pub says : exts ≡ exts_in extensions
 
 -- ---- tests of numbers
 
@@ -54,6 +64,9 @@ first-more f kind es e =
 
 abbrev pub made : Option ℕ → Option Fti → Option ℕ → Exts
 made fdt fti cenc = record { fdt = fdt; fti = fti; cenc = cenc }
+
+made-same : {fdt fdt' cenc cenc' : Option ℕ} {fti fti' : Option Fti} → fdt ≡ fdt' → fti ≡ fti' → cenc ≡ cenc' → made fdt fti cenc ≡ made fdt' fti' cenc'
+made-same a b c = rw (a, b, c) refl
 
 -- what is said with one more, by what each part gives of it
 pub exts-more : (es : List (List ℕ)) (e : List ℕ) (self : Exts) (fdt cenc : Option ℕ) (fti : Option Fti) → self ≡ exts_in es
@@ -126,8 +139,8 @@ both-false a b c d leads = not-both (a == c) (b == d) (λ h. true-same b d (lead
 false-both : (a b c d : ℕ) → ((a == c) && not (b == d)) ≡ false → a ≡ c → b ≡ d
 false-both a b c d is same = same-true b d (both-not (a == c) (b == d) is (true-same a c same))
 
-fault-front : (place : ℕ) (e more : List ℕ) → IsExtension e → front_fault place (e ++ more) ≡ None
-fault-front place e more is =
+fault-front : (offset : ℕ) (e more : List ℕ) → IsExtension e → front_fault offset (e ++ more) ≡ None
+fault-front offset e more is =
     let size = size-front e more is in
     none-chosen _ _ _ _ _ _ _ _
     (false-some _ (subst (λ n. 0 < n) (sym size) is.some))
@@ -136,76 +149,76 @@ fault-front place e more is =
     (both-false _ _ 192 1 (λ h. ap (λ n. n / 16) (second-front e more is) ∙ is.fdt (sym (het-front e more is) ∙ h)))
 
 -- an extension is read off the front
-step-front : (most place : ℕ) (e more : List ℕ) → IsExtension e
-    → extensions_in (suc most) place (e ++ more) ≡ before None e (extensions_in most (place + length e) more)
+step-front : (most offset : ℕ) (e more : List ℕ) → IsExtension e
+    → extensions_in (suc most) offset (e ++ more) ≡ before None e (extensions_in most (offset + length e) more)
 unfolding extensions_in
-step-front most place e more is =
+step-front most offset e more is =
     let size = size-front e more is in
     let some : (length (e ++ more) == 0) ≡ false = false-some _ (omega (arith, length-append e more, is.some)) in
     let first : take (extension_size (e ++ more)) (e ++ more) ≡ e = take_at e more _ (sym size) in
     let rest : drop (extension_size (e ++ more)) (e ++ more) ≡ more = drop_at e more _ (sym size) in
-    ap (λ b. cond b (Ok []) (before (front_fault place (e ++ more)) (take (extension_size (e ++ more)) (e ++ more))
-    (extensions_in most (place + extension_size (e ++ more)) (drop (extension_size (e ++ more)) (e ++ more))))) some
-    ∙ (ap (λ o. before o (take (extension_size (e ++ more)) (e ++ more)) (extensions_in most (place + extension_size (e ++ more)) (drop (extension_size (e ++ more)) (e ++ more)))) (fault-front place e more is)
-    ∙ ap₂ (before None) first (ap₂ (λ n (l : List ℕ). extensions_in most (place + n) l) size rest))
+    ap (λ b. cond b (Ok []) (before (front_fault offset (e ++ more)) (take (extension_size (e ++ more)) (e ++ more))
+    (extensions_in most (offset + extension_size (e ++ more)) (drop (extension_size (e ++ more)) (e ++ more))))) some
+    ∙ (ap (λ o. before o (take (extension_size (e ++ more)) (e ++ more)) (extensions_in most (offset + extension_size (e ++ more)) (drop (extension_size (e ++ more)) (e ++ more)))) (fault-front offset e more is)
+    ∙ ap₂ (before None) first (ap₂ (λ n (l : List ℕ). extensions_in most (offset + n) l) size rest))
 
 -- ---- extensions that are joined are read
 
-in-nil : (most place : ℕ) → extensions_in most place [] ≡ Ok []
+in-nil : (most offset : ℕ) → extensions_in most offset [] ≡ Ok []
 unfolding extensions_in
-in-nil zero place = refl
-in-nil (suc most) place = refl
+in-nil zero offset = refl
+in-nil (suc most) offset = refl
 
-in-fault : (most place : ℕ) (bytes : List ℕ) (fault : ExtFault) → 0 < length bytes → front_fault place bytes ≡ Some fault
-    → extensions_in (suc most) place bytes ≡ Err fault
+in-fault : (most offset : ℕ) (bytes : List ℕ) (fault : ExtFault) → 0 < length bytes → front_fault offset bytes ≡ Some fault
+    → extensions_in (suc most) offset bytes ≡ Err fault
 unfolding extensions_in
-in-fault most place bytes fault some is =
-    ap (λ b. cond b (Ok []) (before (front_fault place bytes) (take (extension_size bytes) bytes) (extensions_in most (place + extension_size bytes) (drop (extension_size bytes) bytes)))) (false-some _ some)
-    ∙ ap (λ o. before o (take (extension_size bytes) bytes) (extensions_in most (place + extension_size bytes) (drop (extension_size bytes) bytes))) is
+in-fault most offset bytes fault some is =
+    ap (λ b. cond b (Ok []) (before (front_fault offset bytes) (take (extension_size bytes) bytes) (extensions_in most (offset + extension_size bytes) (drop (extension_size bytes) bytes)))) (false-some _ some)
+    ∙ ap (λ o. before o (take (extension_size bytes) bytes) (extensions_in most (offset + extension_size bytes) (drop (extension_size bytes) bytes))) is
 
-read-good : (most place : ℕ) (es : List (List ℕ)) → AllByRecursion IsExtension es → length (concat es) ≤ most
-    → extensions_in most place (concat es) ≡ Ok es
-read-good most place [] all short = in-nil most place
-read-good zero place (e ∷ es) all short =
+read-good : (most offset : ℕ) (es : List (List ℕ)) → AllByRecursion IsExtension es → length (concat es) ≤ most
+    → extensions_in most offset (concat es) ≡ Ok es
+read-good most offset [] all short = in-nil most offset
+read-good zero offset (e ∷ es) all short =
     absurd (omega (arith, length-append e (concat es), length-least e all.0))
-read-good (suc most) place (e ∷ es) all short =
-    step-front most place e (concat es) all.0
-    ∙ ap (before None e) (read-good most (place + length e) es all.1 (omega (arith, length-append e (concat es), length-least e all.0)))
+read-good (suc most) offset (e ∷ es) all short =
+    step-front most offset e (concat es) all.0
+    ∙ ap (before None e) (read-good most (offset + length e) es all.1 (omega (arith, length-append e (concat es), length-least e all.0)))
 
-read-fault : (most place : ℕ) (es : List (List ℕ)) (rest : List ℕ) (fault : ExtFault) → AllByRecursion IsExtension es → 0 < length rest
-    → front_fault (place + length (concat es)) rest ≡ Some fault → length (concat es ++ rest) ≤ most
-    → extensions_in most place (concat es ++ rest) ≡ Err fault
-read-fault zero place [] rest fault all some is short = absurd (omega arith)
-read-fault (suc most) place [] rest fault all some is short =
-    in-fault most place rest fault some (ap (λ n. front_fault n rest) (omega arith) ∙ is)
-read-fault zero place (e ∷ es) rest fault all some is short =
+read-fault : (most offset : ℕ) (es : List (List ℕ)) (rest : List ℕ) (fault : ExtFault) → AllByRecursion IsExtension es → 0 < length rest
+    → front_fault (offset + length (concat es)) rest ≡ Some fault → length (concat es ++ rest) ≤ most
+    → extensions_in most offset (concat es ++ rest) ≡ Err fault
+read-fault zero offset [] rest fault all some is short = absurd (omega arith)
+read-fault (suc most) offset [] rest fault all some is short =
+    in-fault most offset rest fault some (ap (λ n. front_fault n rest) (omega arith) ∙ is)
+read-fault zero offset (e ∷ es) rest fault all some is short =
     absurd (omega (arith, length-append (e ++ concat es) rest, length-append e (concat es), length-least e all.0))
-read-fault (suc most) place (e ∷ es) rest fault all some is short =
-    ap (extensions_in (suc most) place) (append_assoc e (concat es) rest)
-    ∙ (step-front most place e (concat es ++ rest) all.0
-    ∙ ap (before None e) (read-fault most (place + length e) es rest fault all.1 some
+read-fault (suc most) offset (e ∷ es) rest fault all some is short =
+    ap (extensions_in (suc most) offset) (append_assoc e (concat es) rest)
+    ∙ (step-front most offset e (concat es ++ rest) all.0
+    ∙ ap (before None e) (read-fault most (offset + length e) es rest fault all.1 some
     (ap (λ n. front_fault n rest) (omega (arith, length-append e (concat es))) ∙ is)
     (omega (arith, length-append (e ++ concat es) rest, length-append e (concat es), length-append (concat es) rest, length-least e all.0))))
 
 -- ---- what is read is extensions that are joined
 
--- bytes do not begin with an extension, behind extensions that begin at a place
-pub record IsFaultFrom (place : ℕ) (bytes : List ℕ) (fault : ExtFault) : Type 0 where
+-- bytes do not begin with an extension, behind extensions that begin at an offset
+pub record IsFaultFrom (offset : ℕ) (bytes : List ℕ) (fault : ExtFault) : Type 0 where
   pub extensions : List (List ℕ)
   pub rest : List ℕ
   pub joined : bytes ≡ concat extensions ++ rest
   pub each : AllByRecursion IsExtension extensions
   pub some : 0 < length rest
-  pub fault_is : front_fault (place + length (concat extensions)) rest ≡ Some fault
+  pub fault_is : front_fault (offset + length (concat extensions)) rest ≡ Some fault
 
 abbrev Reads : ℕ → List ℕ → Result (List (List ℕ)) ExtFault → Type 0
-Reads place bytes (Ok es) = (bytes ≡ concat es) × AllByRecursion IsExtension es
-Reads place bytes (Err fault) = IsFaultFrom place bytes fault
+Reads offset bytes (Ok es) = (bytes ≡ concat es) × AllByRecursion IsExtension es
+Reads offset bytes (Err fault) = IsFaultFrom offset bytes fault
 
 -- bytes that begin with no fault begin with an extension
-from-none : (place : ℕ) (bytes : List ℕ) → front_fault place bytes ≡ None
+from-none : (offset : ℕ) (bytes : List ℕ) → front_fault offset bytes ≡ None
     → IsExtension (take (extension_size bytes) bytes) × (extension_size bytes ≤ length bytes)
-from-none place bytes is =
+from-none offset bytes is =
     let are : AreFalse (extension_size bytes == 0) (nat_lt (length bytes) (extension_size bytes)) ((het bytes == 64) && not (hel bytes == 4))
     ((het bytes == 192) && not (flute_version bytes == 1)) = chosen-none _ _ _ _ _ _ _ _ is in
     let size = extension_size bytes in
@@ -225,12 +238,12 @@ from-none place bytes is =
       whole,
     )
 
-reads-more : (place : ℕ) (bytes : List ℕ) (r : Result (List (List ℕ)) ExtFault) → IsExtension (take (extension_size bytes) bytes)
-    → extension_size bytes ≤ length bytes → Reads (place + extension_size bytes) (drop (extension_size bytes) bytes) r
-    → Reads place bytes (before None (take (extension_size bytes) bytes) r)
-reads-more place bytes (Ok es) first whole later =
+reads-more : (offset : ℕ) (bytes : List ℕ) (r : Result (List (List ℕ)) ExtFault) → IsExtension (take (extension_size bytes) bytes)
+    → extension_size bytes ≤ length bytes → Reads (offset + extension_size bytes) (drop (extension_size bytes) bytes) r
+    → Reads offset bytes (before None (take (extension_size bytes) bytes) r)
+reads-more offset bytes (Ok es) first whole later =
     (sym (take-append-drop (extension_size bytes) bytes) ∙ ap (λ (l : List ℕ). take (extension_size bytes) bytes ++ l) later.0, (first, later.1))
-reads-more place bytes (Err fault) first whole later =
+reads-more offset bytes (Err fault) first whole later =
     let e : List ℕ = take (extension_size bytes) bytes in
     let len : length e ≡ extension_size bytes = length-take-le (extension_size bytes) bytes whole in
     record {
@@ -242,10 +255,10 @@ reads-more place bytes (Err fault) first whole later =
       fault_is = ap (λ n. front_fault n later.rest) (omega (arith, length-append e (concat later.extensions), len)) ∙ later.fault_is;
     }
 
-reads-front : (place : ℕ) (bytes : List ℕ) (o : Option ExtFault) (r : Result (List (List ℕ)) ExtFault) → 0 < length bytes → front_fault place bytes ≡ o
-    → (front_fault place bytes ≡ None → Reads (place + extension_size bytes) (drop (extension_size bytes) bytes) r)
-    → Reads place bytes (before o (take (extension_size bytes) bytes) r)
-reads-front place bytes (Some fault) r some is later = record {
+reads-front : (offset : ℕ) (bytes : List ℕ) (o : Option ExtFault) (r : Result (List (List ℕ)) ExtFault) → 0 < length bytes → front_fault offset bytes ≡ o
+    → (front_fault offset bytes ≡ None → Reads (offset + extension_size bytes) (drop (extension_size bytes) bytes) r)
+    → Reads offset bytes (before o (take (extension_size bytes) bytes) r)
+reads-front offset bytes (Some fault) r some is later = record {
   extensions = [];
   rest = bytes;
   joined = refl;
@@ -253,29 +266,29 @@ reads-front place bytes (Some fault) r some is later = record {
   some = some;
   fault_is = ap (λ n. front_fault n bytes) (omega arith) ∙ is;
 }
-reads-front place bytes None r some is later =
-    let front = from-none place bytes is in reads-more place bytes r front.0 front.1 (later is)
+reads-front offset bytes None r some is later =
+    let front = from-none offset bytes is in reads-more offset bytes r front.0 front.1 (later is)
 
-reads-some : (place : ℕ) (bytes : List ℕ) (b : Bool) (r : Result (List (List ℕ)) ExtFault) → (length bytes == 0) ≡ b
-    → (0 < length bytes → Reads place bytes r) → Reads place bytes (cond b (Ok []) r)
-reads-some place bytes true r is later = (nil_from_length bytes (same-true _ _ is), tt)
-reads-some place bytes false r is later = later (some-false _ is)
+reads-some : (offset : ℕ) (bytes : List ℕ) (b : Bool) (r : Result (List (List ℕ)) ExtFault) → (length bytes == 0) ≡ b
+    → (0 < length bytes → Reads offset bytes r) → Reads offset bytes (cond b (Ok []) r)
+reads-some offset bytes true r is later = (nil_from_length bytes (same-true _ _ is), tt)
+reads-some offset bytes false r is later = later (some-false _ is)
 
-reads : (most place : ℕ) (bytes : List ℕ) → length bytes ≤ most → Reads place bytes (extensions_in most place bytes)
+reads : (most offset : ℕ) (bytes : List ℕ) → length bytes ≤ most → Reads offset bytes (extensions_in most offset bytes)
 unfolding extensions_in
-reads zero place bytes short = (nil_from_length bytes (omega arith), tt)
-reads (suc most) place bytes short =
+reads zero offset bytes short = (nil_from_length bytes (omega arith), tt)
+reads (suc most) offset bytes short =
     let size = extension_size bytes in
-    reads-some place bytes (length bytes == 0) (before (front_fault place bytes) (take size bytes) (extensions_in most (place + size) (drop size bytes))) refl
-    (λ some. reads-front place bytes (front_fault place bytes) (extensions_in most (place + size) (drop size bytes)) some refl
-    (λ none. reads most (place + size) (drop size bytes)
-    (let front = from-none place bytes none in
+    reads-some offset bytes (length bytes == 0) (before (front_fault offset bytes) (take size bytes) (extensions_in most (offset + size) (drop size bytes))) refl
+    (λ some. reads-front offset bytes (front_fault offset bytes) (extensions_in most (offset + size) (drop size bytes)) some refl
+    (λ none. reads most (offset + size) (drop size bytes)
+    (let front = from-none offset bytes none in
     let least = length-least (take size bytes) front.0 in
     omega (arith, length-drop size bytes, length-take-le size bytes front.1))))
 
 -- ---- the laws
 
-exts-Ok : (area : List ℕ) (exts : Exts) → IsExts area exts → exts_of area ≡ Ok exts
+pub exts-Ok : (area : List ℕ) (exts : Exts) → AreExts area exts → exts_of area ≡ Ok exts
 unfolding exts_of
 exts-Ok area exts is =
     ap said (ap (λ (l : List ℕ). extensions_in (length l) 0 l) is.joined ∙ read-good (length (concat is.extensions)) 0 is.extensions is.each (omega arith))
@@ -288,7 +301,7 @@ exts-Err area fault is =
     ∙ read-fault (length (concat is.extensions ++ is.rest)) 0 is.extensions is.rest fault is.each is.some
     (ap (λ n. front_fault n is.rest) (omega arith) ∙ is.fault_is) (omega arith))
 
-said-Ok : (area : List ℕ) (r : Result (List (List ℕ)) ExtFault) (exts : Exts) → Reads 0 area r → said r ≡ Ok exts → IsExts area exts
+said-Ok : (area : List ℕ) (r : Result (List (List ℕ)) ExtFault) (exts : Exts) → Reads 0 area r → said r ≡ Ok exts → AreExts area exts
 said-Ok area (Ok es) exts read is = record { extensions = es; joined = read.0; each = read.1; says = cc }
 said-Ok area (Err fault) exts read is = absurd cc
 
@@ -305,7 +318,7 @@ said-Err area (Err other) fault read is =
       fault_is = ap (λ n. front_fault n read.rest) (omega arith) ∙ read.fault_is ∙ ap Some same;
     }
 
-Ok-exts : (area : List ℕ) (exts : Exts) → exts_of area ≡ Ok exts → IsExts area exts
+Ok-exts : (area : List ℕ) (exts : Exts) → exts_of area ≡ Ok exts → AreExts area exts
 unfolding exts_of
 Ok-exts area exts is = said-Ok area _ exts (reads (length area) 0 area (omega arith)) is
 
@@ -313,8 +326,31 @@ Err-exts : (area : List ℕ) (fault : ExtFault) → exts_of area ≡ Err fault �
 unfolding exts_of
 Err-exts area fault is = said-Err area _ fault (reads (length area) 0 area (omega arith)) is
 
+-- what the parts joined say is what stands at the offsets
+parts-say : (area : List ℕ) (exts : Exts) → IsExts area exts → AreExts area exts
+parts-say area exts is =
+    let a = fdt-function (first_of 192 is.extensions) exts.fdt is.fdt in
+    let b = fti-function (first_of 64 is.extensions) exts.fti is.fti in
+    let c = cenc-function (first_of 193 is.extensions) exts.cenc is.cenc in
+    record { extensions = is.extensions; joined = is.joined; each = is.each; says = made-same a b c }
+
+say-parts : (area : List ℕ) (exts : Exts) → AreBytes area → AreExts area exts → IsExts area exts
+say-parts area exts all is =
+    let each = each-bytes is.extensions (subst AreBytes is.joined all) in
+    subst (IsExts area) (sym is.says) (record {
+      extensions = is.extensions;
+      joined = is.joined;
+      each = is.each;
+      fdt = function-fdt is.extensions is.each each;
+      fti = function-fti is.extensions is.each each;
+      cenc = function-cenc is.extensions is.each each;
+    })
+
+pub exts-found : (area : List ℕ) (exts : Exts) → IsExts area exts → exts_of area ≡ Ok exts
+exts-found area exts is = exts-Ok area exts (parts-say area exts is)
+
 pub extensions_found : ExtensionsAreFound
-extensions_found area exts = (exts-Ok area exts, Ok-exts area exts)
+extensions_found area exts all = (exts-found area exts, λ is. say-parts area exts all (Ok-exts area exts is))
 
 pub faults_first : ExtensionFaultsAreFirst
 faults_first area fault = (exts-Err area fault, Err-exts area fault)
@@ -328,29 +364,29 @@ AllByRecursion-push (x ∷ es) e all is = (all.0, AllByRecursion-push es e all.1
 pub concat-push : (es : List (List ℕ)) (e : List ℕ) → concat (es ++ e ∷ []) ≡ concat es ++ e
 concat-push es e = concat-append es (e ∷ []) ∙ ap (λ (l : List ℕ). concat es ++ l) (append-nil e)
 
-pub exts-none : (area : List ℕ) → IsExts (take 0 area) (made None None None)
+pub exts-none : (area : List ℕ) → AreExts (take 0 area) (made None None None)
 exts-none area = record { extensions = []; joined = refl; each = tt; says = refl }
 
-pub exts-next : (area : List ℕ) (place : ℕ) (e : List ℕ) (exts new : Exts) → IsExts (take place area) exts → IsExtension e
-    → e ≡ take (length e) (drop place area) → ((es : List (List ℕ)) → exts ≡ exts_in es → new ≡ exts_in (es ++ e ∷ []))
-    → IsExts (take (place + length e) area) new
-exts-next area place e exts new is one at says = record {
+pub exts-next : (area : List ℕ) (offset : ℕ) (e : List ℕ) (exts new : Exts) → AreExts (take offset area) exts → IsExtension e
+    → e ≡ take (length e) (drop offset area) → ((es : List (List ℕ)) → exts ≡ exts_in es → new ≡ exts_in (es ++ e ∷ []))
+    → AreExts (take (offset + length e) area) new
+exts-next area offset e exts new is one at says = record {
   extensions = is.extensions ++ e ∷ [];
-  joined = take-add place (length e) area ∙ ap₂ (λ (a b : List ℕ). a ++ b) is.joined (sym at) ∙ sym (concat-push is.extensions e);
+  joined = take-add offset (length e) area ∙ ap₂ (λ (a b : List ℕ). a ++ b) is.joined (sym at) ∙ sym (concat-push is.extensions e);
   each = AllByRecursion-push is.extensions e is.each one;
   says = says is.extensions is.says;
 }
 
-pub exts-fault : (area : List ℕ) (place : ℕ) (exts : Exts) (fault : ExtFault) → place < length area → IsExts (take place area) exts
-    → front_fault place (drop place area) ≡ Some fault → IsExtsFault area fault
-exts-fault area place exts fault within is fault_is = record {
+pub exts-fault : (area : List ℕ) (offset : ℕ) (exts : Exts) (fault : ExtFault) → offset < length area → AreExts (take offset area) exts
+    → front_fault offset (drop offset area) ≡ Some fault → IsExtsFault area fault
+exts-fault area offset exts fault within is fault_is = record {
   extensions = is.extensions;
-  rest = drop place area;
-  joined = sym (take-append-drop place area) ∙ ap (λ (l : List ℕ). l ++ drop place area) is.joined;
+  rest = drop offset area;
+  joined = sym (take-append-drop offset area) ∙ ap (λ (l : List ℕ). l ++ drop offset area) is.joined;
   each = is.each;
-  some = omega (arith, length-drop place area);
+  some = omega (arith, length-drop offset area);
   fault_is =
-      ap (λ n. front_fault n (drop place area)) (sym (ap length is.joined) ∙ length-take-le place area (omega arith)) ∙ fault_is;
+      ap (λ n. front_fault n (drop offset area)) (sym (ap length is.joined) ∙ length-take-le offset area (omega arith)) ∙ fault_is;
 }
 
 words : (b : Bool) (n : ℕ) → cond b (4 * n) 4 % 4 ≡ 0
@@ -361,12 +397,20 @@ words false n = refl
 pub whole-words : (e : List ℕ) → IsExtension e → length e % 4 ≡ 0
 whole-words e is = subst (λ n. n % 4 ≡ 0) (sym is.whole) (words (nat_lt (het e) 128) (hel e))
 
+-- ---- what is answered
+
+pub answered_exts : (area : List ℕ) (result : Result Exts ExtFault) → ((i : ℕ) → Fits w8 (get_or area i 0)) → result ≡ exts_of area
+    → (exts : Exts) → IsExts area exts ↔ (result ≡ Ok exts)
+answered_exts area result each exact exts =
+    let law = extensions_found area exts (are_bytes area each) in
+    (λ is. exact ∙ law.0 is, λ is. law.1 (sym exact ∙ is))
+
+pub answered_fault : (area : List ℕ) (result : Result Exts ExtFault) → result ≡ exts_of area → (fault : ExtFault) → IsExtsFault area fault ↔ (result ≡ Err fault)
+answered_fault area result exact fault =
+    let law = faults_first area fault in
+    (λ is. exact ∙ law.0 is, λ is. law.1 (sym exact ∙ is))
+
 -- a fault that is answered
 pub answer-fault : (area : List ℕ) (reason answer : ExtFault) (result : Result Exts ExtFault) → result ≡ Err answer → answer ≡ reason
     → IsExtsFault area reason → result ≡ exts_of area
 answer-fault area reason answer result is same fault = is ∙ (ap Err same ∙ sym (exts-Err area reason fault))
-
-pub refuse-fault : (area : List ℕ) (reason answer : ExtFault) (result : Result Exts ExtFault) → result ≡ Err answer → answer ≡ reason
-    → IsExtsFault area reason → IfErr result (λ f. IsExtsFault area f)
-refuse-fault area reason answer result is same fault =
-    subst (λ (r : Result Exts ExtFault). IfErr r (λ f. IsExtsFault area f)) (sym (is ∙ ap Err same)) fault

@@ -1,3 +1,4 @@
 pub mod ExtensionLemmas
 pub mod PacketLemmas
+pub mod PartLemmas
 pub mod WriteLemmas

@@ -1,7 +1,8 @@
 -- Header extensions (RFC 3451 section 5.2): EXT_FTI (RFC 3926 section 5.1.1), EXT_FDT (section 3.4.1) and
 -- EXT_CENC (section 3.4.3). EXT_NOP, EXT_AUTH and each other kind say nothing here.
-use Rattle.std.specs.Prelude.{◌≡◌, ℕ, zero, suc, ◌+◌, ◌*◌, ◌/◌, ◌%◌, ◌^◌, ◌<◌, ◌==◌, ◌&&◌, not, nat_lt, if◌then◌else◌, List, [], ◌∷◌, ◌++◌, length, take, drop, slice_index, slice_range, Option, Some, None, option_map, Result, Ok, Err, find}
+use Rattle.std.specs.Prelude.{◌≡◌, ℕ, zero, suc, ◌+◌, ◌*◌, ◌/◌, ◌%◌, ◌^◌, ◌<◌, ◌==◌, ◌&&◌, not, nat_lt, if◌then◌else◌, List, [], ◌∷◌, ◌++◌, length, take, drop, slice_index, slice_range, Option, Some, None, option_map, Result, Ok, Err, find, ⊤}
 use Rattle.std.specs.List.{AllByRecursion, concat}
+use Rattle.mb_base.specs.Number.{be_bytes}
 use Rattle.mb_lct.specs.Lct.{number_between}
 use Rattle.mb_alc.specs.declared.fault.ExtFault.{ExtFault}
 use Rattle.mb_alc.specs.declared.fault.ExtFault.TheVariants.{Overrun, ZeroLength, FtiLength, FluteVersion}
@@ -35,7 +36,76 @@ pub record IsExtension (bytes : List ℕ) : Type 0 where
   -- EXT_FDT is of FLUTE version 1
   pub fdt : het bytes ≡ 192 → flute_version bytes ≡ 1
 
--- ---- what extensions say
+-- ---- what an extension says
+
+-- EXT_FDT: its HET, FLUTE version 1 in four bits, and the FDT Instance ID in 20
+abbrev pub fdt_extension : ℕ → List ℕ
+fdt_extension id = 192 ∷ be_bytes 3 (2 ^ 20 + id)
+
+-- EXT_FTI: its HET, its HEL of four words, and the fields
+abbrev pub fti_extension : Fti → List ℕ
+fti_extension fti = 64 ∷ 4 ∷ be_bytes 6 fti.transfer ++ be_bytes 2 fti.instance ++ be_bytes 2 fti.symbol ++ fti.tail
+
+-- EXT_CENC: its HET, the algorithm, and two reserved bytes
+abbrev pub cenc_extension : ℕ → List ℕ → List ℕ
+cenc_extension algorithm reserved = 193 ∷ algorithm ∷ reserved
+
+pub record IsFdt (extension : List ℕ) (id : ℕ) : Type 0 where
+  pub joined : extension ≡ fdt_extension id
+  pub below : id < 2 ^ 20
+
+pub record IsFti (extension : List ℕ) (fti : Fti) : Type 0 where
+  pub joined : extension ≡ fti_extension fti
+  pub transfer : fti.transfer < 2 ^ 48
+  pub instance : fti.instance < 2 ^ 16
+  pub symbol : fti.symbol < 2 ^ 16
+  pub tail : length fti.tail ≡ 4
+
+pub record IsCenc (extension : List ℕ) (algorithm : ℕ) : Type 0 where
+  pub reserved : List ℕ
+  pub joined : extension ≡ cenc_extension algorithm reserved
+
+-- the first extension of a kind, by its HET
+abbrev pub first_of : ℕ → List (List ℕ) → Option (List ℕ)
+first_of kind extensions = find (λ extension. het extension == kind) extensions
+
+-- an extension, where there is one, says this, and where there is none nothing is said
+abbrev pub Says : {A : Type 0} → (List ℕ → A → Type 0) → Option (List ℕ) → Option A → Type 0
+Says Is None None = ⊤
+Says Is None (Some said) = ⊥
+Says Is (Some extension) None = ⊥
+Says Is (Some extension) (Some said) = Is extension said
+
+-- ---- an area
+
+-- The area is a list of extensions, joined, of which the first of each kind says this.
+pub record IsExts (area : List ℕ) (exts : Exts) : Type 0 where
+  pub extensions : List (List ℕ)
+  pub joined : area ≡ concat extensions
+  pub each : AllByRecursion IsExtension extensions
+  pub fdt : Says IsFdt (first_of 192 extensions) exts.fdt
+  pub fti : Says IsFti (first_of 64 extensions) exts.fti
+  pub cenc : Says IsCenc (first_of 193 extensions) exts.cenc
+
+-- why the bytes from an offset on do not begin with an extension, where they do not: the first of these that holds
+abbrev pub front_fault : ℕ → List ℕ → Option ExtFault
+front_fault offset bytes =
+    if extension_size bytes == 0 then Some (ZeroLength offset)
+    else if nat_lt (length bytes) (extension_size bytes) then Some (Overrun offset)
+    else if (het bytes == 64) && not (hel bytes == 4) then Some (FtiLength offset)
+    else if (het bytes == 192) && not (flute_version bytes == 1) then Some (FluteVersion (flute_version bytes))
+    else None
+
+-- The area is a list of extensions, joined, and behind them bytes that do not begin with one, for this reason.
+pub record IsExtsFault (area : List ℕ) (fault : ExtFault) : Type 0 where
+  pub extensions : List (List ℕ)
+  pub rest : List ℕ
+  pub joined : area ≡ concat extensions ++ rest
+  pub each : AllByRecursion IsExtension extensions
+  pub some : 0 < length rest
+  pub fault_is : front_fault (length (concat extensions)) rest ≡ Some fault
+
+-- ---- the same as a function
 
 -- the FDT Instance ID of EXT_FDT, its last 20 bits
 abbrev pub instance_id : List ℕ → ℕ
@@ -54,11 +124,7 @@ fti_of bytes = record {
 abbrev pub algorithm : List ℕ → ℕ
 algorithm bytes = slice_index bytes 1
 
--- the first extension of a kind, by its HET
-abbrev pub first_of : ℕ → List (List ℕ) → Option (List ℕ)
-first_of kind extensions = find (λ extension. het extension == kind) extensions
-
--- the first of each kind counts
+-- what the extensions say
 abbrev pub exts_in : List (List ℕ) → Exts
 exts_in extensions = record {
   fdt = option_map instance_id (first_of 192 extensions);
@@ -66,48 +132,19 @@ exts_in extensions = record {
   cenc = option_map algorithm (first_of 193 extensions);
 }
 
--- ---- an area
-
--- The area is a list of extensions, joined, and they say this.
-pub record IsExts (area : List ℕ) (exts : Exts) : Type 0 where
-  pub extensions : List (List ℕ)
-  pub joined : area ≡ concat extensions
-  pub each : AllByRecursion IsExtension extensions
-  pub says : exts ≡ exts_in extensions
-
--- why the bytes from a place on do not begin with an extension, where they do not: the first of these that holds
-abbrev pub front_fault : ℕ → List ℕ → Option ExtFault
-front_fault place bytes =
-    if extension_size bytes == 0 then Some (ZeroLength place)
-    else if nat_lt (length bytes) (extension_size bytes) then Some (Overrun place)
-    else if (het bytes == 64) && not (hel bytes == 4) then Some (FtiLength place)
-    else if (het bytes == 192) && not (flute_version bytes == 1) then Some (FluteVersion (flute_version bytes))
-    else None
-
--- The area is a list of extensions, joined, and behind them bytes that do not begin with one, for this reason.
-pub record IsExtsFault (area : List ℕ) (fault : ExtFault) : Type 0 where
-  pub extensions : List (List ℕ)
-  pub rest : List ℕ
-  pub joined : area ≡ concat extensions ++ rest
-  pub each : AllByRecursion IsExtension extensions
-  pub some : 0 < length rest
-  pub fault_is : front_fault (length (concat extensions)) rest ≡ Some fault
-
--- ---- the same as a function
-
 -- an extension before others, or its fault
 abbrev pub before : Option ExtFault → List ℕ → Result (List (List ℕ)) ExtFault → Result (List (List ℕ)) ExtFault
 before (Some fault) extension others = Err fault
 before None extension (Ok others) = Ok (extension ∷ others)
 before None extension (Err fault) = Err fault
 
--- the extensions that bytes from a place on are, at most so many, or the first fault
+-- the extensions that bytes from an offset on are, at most so many, or the first fault
 unfoldable pub extensions_in : ℕ → ℕ → List ℕ → Result (List (List ℕ)) ExtFault
-extensions_in zero place bytes = Ok []
-extensions_in (suc most) place bytes =
+extensions_in zero offset bytes = Ok []
+extensions_in (suc most) offset bytes =
     if length bytes == 0 then Ok []
-    else before (front_fault place bytes) (take (extension_size bytes) bytes)
-    (extensions_in most (place + extension_size bytes) (drop (extension_size bytes) bytes))
+    else before (front_fault offset bytes) (take (extension_size bytes) bytes)
+    (extensions_in most (offset + extension_size bytes) (drop (extension_size bytes) bytes))
 
 abbrev pub said : Result (List (List ℕ)) ExtFault → Result Exts ExtFault
 said (Ok extensions) = Ok (exts_in extensions)

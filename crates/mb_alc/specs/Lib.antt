@@ -1,6 +1,6 @@
 pub mod Extensions
 pub mod Laws
 pub mod Packet
-pub mod Seen
+pub mod PacketView
 pub mod Words
 pub mod Written

@@ -1,6 +1,8 @@
 -- A packet: what a whole datagram says (RFC 3450 section 2, RFC 3926), and why another one is none.
-use Rattle.std.specs.Prelude.{◌≡◌, ℕ, ◌<◌, ◌≤◌, ◌==◌, nat_lt, if◌then◌else◌, List, [], length, drop, slice_range, Option, Some, None, Result, Ok, Err}
-use Rattle.mb_lct.specs.Lct.{IsLct, lct_of, number_between}
+use Rattle.std.specs.Prelude.{◌≡◌, ℕ, ◌^◌, ◌<◌, ◌≤◌, ◌==◌, nat_lt, if◌then◌else◌, List, [], ◌++◌, length, drop, slice_range, Option, Some, None, Result, Ok, Err}
+use Rattle.mb_base.specs.Number.{be_bytes}
+use Rattle.mb_lct.specs.Header.{IsLct, IsLctFault}
+use Rattle.mb_lct.specs.Lct.{lct_of, number_between}
 use Rattle.mb_lct.specs.declared.head.Lct.{Lct}
 use Rattle.mb_lct.specs.declared.head.LctHead.{LctHead}
 use Rattle.mb_lct.specs.declared.head.LctFault.{LctFault}
@@ -30,13 +32,13 @@ abbrev pub behind : List ℕ → LctHead → List ℕ
 behind bytes head = drop head.end bytes
 
 -- SBN and ESI in 16 bits each, and the payload
-abbrev pub body_in : List ℕ → Body
-body_in bytes = record { sbn = number_between bytes 0 2; esi = number_between bytes 2 4; payload = drop 4 bytes }
+abbrev pub body_parts : Body → List ℕ
+body_parts body = be_bytes 2 body.sbn ++ be_bytes 2 body.esi ++ body.payload
 
 -- nothing stands behind the header, or a whole FEC payload ID and a payload
 abbrev pub IsBody : List ℕ → Option Body → Type 0
 IsBody bytes None = bytes ≡ []
-IsBody bytes (Some body) = (4 ≤ length bytes) × (body ≡ body_in bytes)
+IsBody bytes (Some body) = (bytes ≡ body_parts body) × (body.sbn < 2 ^ 16) × (body.esi < 2 ^ 16)
 
 -- The datagram begins with the header of the packet, the rest of that header is the packet's extensions, the
 -- codepoint is 0 or 1, and the body follows.
@@ -50,7 +52,7 @@ pub record IsPacket (bytes : List ℕ) (p : Packet) : Type 0 where
 
 -- Why a datagram is no packet: the first thing that a packet has and it has not.
 abbrev pub IsPacketFault : List ℕ → PacketFault → Type 0
-IsPacketFault bytes (fault.Lct reason) = lct_of bytes ≡ Err reason
+IsPacketFault bytes (fault.Lct reason) = IsLctFault bytes reason
 IsPacketFault bytes (fault.Ext reason) = (head : LctHead) × IsLct bytes head × IsExtsFault (area bytes head) reason
 IsPacketFault bytes (fault.CodePoint cp) = (head : LctHead) × IsLct bytes head × ((exts : Exts) × IsExts (area bytes head) exts)
     × (cp ≡ head.lct.cp) × (1 < cp)
@@ -58,6 +60,9 @@ IsPacketFault bytes fault.NoPayloadId = (head : LctHead) × IsLct bytes head × 
     × (head.lct.cp ≤ 1) × (0 < length (behind bytes head)) × (length (behind bytes head) < 4)
 
 -- ---- the same as a function
+
+abbrev pub body_in : List ℕ → Body
+body_in bytes = record { sbn = number_between bytes 0 2; esi = number_between bytes 2 4; payload = drop 4 bytes }
 
 abbrev pub body_of : List ℕ → Result (Option Body) PacketFault
 body_of bytes =

@@ -1,29 +1,26 @@
 -- The packet that is written (RFC 3450 section 2): its LCT header, EXT_FDT, EXT_FTI and EXT_CENC as far as it has
 -- them (RFC 3926 sections 3.4.1, 5.1.1 and 3.4.3), and its body.
 use Rattle.std.specs.Prelude.{◌≡◌, ℕ, ◌+◌, ◌*◌, ◌^◌, ◌<◌, ◌≤◌, List, [], ◌∷◌, ◌++◌, length, Option, Some, None, IfSome}
-use Rattle.mb_base.specs.Number.{be_bytes}
 use Rattle.mb_lct.specs.Written.{FitsHeader, lct_bytes}
-use Rattle.mb_alc.specs.Packet.{Body, Packet}
+use Rattle.mb_alc.specs.Extensions.{fdt_extension, fti_extension, cenc_extension}
+use Rattle.mb_alc.specs.Packet.{Body, Packet, body_parts}
 use Rattle.mb_alc.specs.declared.packet.Exts.{Exts}
 use Rattle.mb_alc.specs.declared.packet.Fti.{Fti}
 
 -- ---- the extensions
 
--- EXT_FDT: its HET, FLUTE version 1 in four bits, and the FDT Instance ID in 20
 abbrev pub fdt_bytes : Option ℕ → List ℕ
 fdt_bytes None = []
-fdt_bytes (Some id) = 192 ∷ be_bytes 3 (2 ^ 20 + id)
+fdt_bytes (Some id) = fdt_extension id
 
--- EXT_FTI: its HET, its HEL of four words, and the fields
 abbrev pub fti_bytes : Option Fti → List ℕ
 fti_bytes None = []
-fti_bytes (Some fti) =
-    64 ∷ 4 ∷ be_bytes 6 fti.transfer ++ be_bytes 2 fti.instance ++ be_bytes 2 fti.symbol ++ fti.tail
+fti_bytes (Some fti) = fti_extension fti
 
--- EXT_CENC: its HET, the algorithm, and two reserved bytes
+-- the reserved bytes are 0
 abbrev pub cenc_bytes : Option ℕ → List ℕ
 cenc_bytes None = []
-cenc_bytes (Some algorithm) = 193 ∷ algorithm ∷ 0 ∷ 0 ∷ []
+cenc_bytes (Some algorithm) = cenc_extension algorithm (0 ∷ 0 ∷ [])
 
 -- the extensions, in this order
 abbrev pub ext_bytes : Exts → List ℕ
@@ -40,17 +37,13 @@ ext_words exts = words_if 1 exts.fdt + words_if 4 exts.fti + words_if 1 exts.cen
 
 -- ---- the packet
 
--- SBN and ESI in 16 bits each, and the payload; nothing where there is no body
+-- nothing where there is no body
 abbrev pub body_bytes : Option Body → List ℕ
 body_bytes None = []
-body_bytes (Some body) = be_bytes 2 body.sbn ++ be_bytes 2 body.esi ++ body.payload
+body_bytes (Some body) = body_parts body
 
 unfoldable pub packet_bytes : Packet → List ℕ
 packet_bytes p = lct_bytes p.lct (ext_words p.exts) ++ ext_bytes p.exts ++ body_bytes p.body
-
--- room that is enough for it: without its extensions a header has 28 bytes at most
-abbrev pub room_for : Packet → ℕ
-room_for p = 28 + 4 * ext_words p.exts + length (body_bytes p.body)
 
 -- the packet can be written, and is a datagram
 pub record FitsPacket (p : Packet) : Type 0 where

@@ -1,12 +1,10 @@
-ghost use Rattle.std.specs.Prelude.{◌≡◌, ℕ, List, ◌++◌, ◌∷◌, [], ◌%◌, ◌≤◌, ◌==◌, if◌then◌else◌, length, take, drop, Some, None, IfOk, IfErr};
+ghost use Rattle.std.specs.Prelude.{◌≡◌, ℕ, List, ◌++◌, ◌∷◌, [], ◌%◌, ◌≤◌, ◌==◌, if◌then◌else◌, length, take, drop, Some, None, Ok, Err, ◌↔◌, IfOk, IfErr};
 ghost use Rattle.mb_alc.specs.Extensions.{IsExtension, front_fault, exts_in, IsExts, IsExtsFault, exts_of, het, instance_id, fti_of, algorithm};
 
 use crate::fault::ExtFault;
 use crate::packet::{Exts, Fti};
 use mb_base::{be16, be32, be48};
-
-/// The bytes of a word, the unit in which an extension's length is counted.
-pub(crate) const WORD: usize = 4;
+use mb_lct::WORD;
 
 /// The least HET of an extension that is a single word.
 const SINGLE_WORD: u8 = 128;
@@ -15,7 +13,7 @@ const SINGLE_WORD: u8 = 128;
 pub(crate) const FTI: u8 = 64;
 
 /// HET of EXT_FDT.
-const FDT: u8 = 192;
+pub(crate) const FDT: u8 = 192;
 
 /// HET of EXT_CENC.
 pub(crate) const CENC: u8 = 193;
@@ -24,33 +22,33 @@ pub(crate) const CENC: u8 = 193;
 pub(crate) const FTI_WORDS: u8 = 4;
 
 /// The FLUTE version that is spoken (RFC 3926 section 3.4.1).
-const FLUTE_VERSION: u8 = 1;
+pub(crate) const FLUTE_VERSION: u8 = 1;
 
 /// The weight of the FLUTE version in its byte.
-const VERSION_PLACE: u8 = 16;
+const VERSION_WEIGHT: u8 = 16;
 
 /// How many FDT Instance IDs there are.
 pub(crate) const INSTANCE_IDS: u32 = 1 << 20;
 
-/// The extension at the front of the bytes, the first of which is at `place`.
-fn first_extension(bytes: &[u8], place: usize) -> Result<&[u8], ExtFault>
+/// The extension at the front of the bytes, which begin at an offset of the area.
+fn first_extension(bytes: &[u8], offset: usize) -> Result<&[u8], ExtFault>
     requires { 4 ≤ length bytes.now }
     ensures found { IfOk result (λ extension. IsExtension extension.now × (extension.now ≡ take (length extension.now) bytes.now)) }
-    ensures refused { IfErr result (λ fault. front_fault place bytes.now ≡ Some fault) }
+    ensures refused { IfErr result (λ fault. front_fault offset bytes.now ≡ Some fault) }
 {
     let (het, second) = (bytes[0], bytes[1]);
     let words = if het < SINGLE_WORD { second } else { 1 };
     let size = WORD * usize::from(words);
     if size == 0 {
-        return Err(ExtFault::ZeroLength(place));
+        return Err(ExtFault::ZeroLength(offset));
     }
     if bytes.len() < size {
-        return Err(ExtFault::Overrun(place));
+        return Err(ExtFault::Overrun(offset));
     }
     if het == FTI && words != FTI_WORDS {
-        return Err(ExtFault::FtiLength(place));
+        return Err(ExtFault::FtiLength(offset));
     }
-    let version = second / VERSION_PLACE;
+    let version = second / VERSION_WEIGHT;
     if het == FDT && version != FLUTE_VERSION {
         return Err(ExtFault::FluteVersion(version));
     }
@@ -112,6 +110,21 @@ impl Exts {
     }
 }
 
+/// What the extensions from the area's start on say, or the first fault.
+fn exts_in(area: &[u8]) -> Result<Exts, ExtFault>
+    requires { length area.now % 4 ≡ 0 }
+    ensures { result ≡ exts_of area.now }
+{
+    let mut exts = Exts::NONE;
+    let mut offset = 0;
+    while offset < area.len() {
+        let extension = first_extension(&area[offset..], offset)?;
+        exts = exts.with(extension);
+        offset += extension.len();
+    }
+    Ok(exts)
+}
+
 /// Reads the header extensions that fill an area, whose length is a multiple of four (RFC 3451 section 5.2). The
 /// first of each kind counts; other kinds are passed over, EXT_NOP and EXT_AUTH among them.
 ///
@@ -120,18 +133,11 @@ impl Exts {
 /// - `Overrun`: it passes the end of the area.
 /// - `FtiLength`: it is an EXT_FTI whose length is not four words.
 /// - `FluteVersion`: it is an EXT_FDT with another FLUTE version than 1.
-pub fn read_exts(area: &[u8]) -> Result<Exts, ExtFault>
+pub(crate) fn read_exts(area: &[u8]) -> Result<Exts, ExtFault>
     requires { length area.now % 4 ≡ 0 }
     ensures exact { result ≡ exts_of area.now }
-    ensures found { IfOk result (λ exts. IsExts area.now exts) }
-    ensures refused { IfErr result (λ fault. IsExtsFault area.now fault) }
+    ensures found { (exts : Exts) → IsExts area.now exts ↔ (result ≡ Ok exts) }
+    ensures refused { (fault : ExtFault) → IsExtsFault area.now fault ↔ (result ≡ Err fault) }
 {
-    let mut exts = Exts::NONE;
-    let mut place = 0;
-    while place < area.len() {
-        let extension = first_extension(&area[place..], place)?;
-        exts = exts.with(extension);
-        place += extension.len();
-    }
-    Ok(exts)
+    exts_in(area)
 }

@@ -2,15 +2,17 @@ ghost use Rattle.std.specs.Prelude.{◌≡◌};
 ghost use Rattle.mb_alc.specs.Words.{fault_word, kind_of, kind_word};
 
 use mb_lct::LctFault;
+use std::error::Error;
+use std::fmt;
 
 /// Why an area is no list of header extensions. The first extension that is none decides, and for it the first
-/// of these reasons that holds. A place is that of the extension's first byte, in bytes from the start of the
-/// area.
+/// of these reasons that holds. An extension of no words passes no end, so `Overrun` and `ZeroLength` never hold
+/// together. An offset is that of the extension's first byte, in bytes from the start of the area.
 #[derive(Clone, Copy, Debug, PartialEq, Eq)]
 pub enum ExtFault {
     /// It passes the end of the area, which is the header's end.
     Overrun(usize),
-    /// Its length in words is 0. This is looked at before `Overrun`.
+    /// Its length in words is 0.
     ZeroLength(usize),
     /// It is an EXT_FTI whose length is not four words.
     FtiLength(usize),
@@ -31,7 +33,7 @@ pub enum PacketFault {
     NoPayloadId,
 }
 
-/// The kinds of faults, in the order in which they are looked for.
+/// The kinds of faults, in the order in which they are printed. Each has the name of its fault.
 #[derive(Clone, Copy, Debug, PartialEq, Eq)]
 pub enum FaultKind {
     Short,
@@ -47,7 +49,7 @@ pub enum FaultKind {
 }
 
 impl FaultKind {
-    /// All of them, in the order in which they are printed.
+    /// All of them, in that order.
     pub const ALL: [FaultKind; 10] = [
         FaultKind::Short,
         FaultKind::Version,
@@ -81,7 +83,7 @@ impl FaultKind {
 }
 
 impl PacketFault {
-    /// The kind of the fault, without its value or place.
+    /// The kind of the fault, without its value or offset.
     pub fn kind(self) -> FaultKind
         ensures { result ≡ kind_of self }
     {
@@ -126,3 +128,36 @@ impl From<ExtFault> for PacketFault {
         PacketFault::Ext(fault)
     }
 }
+
+impl fmt::Display for ExtFault {
+    fn fmt<W: fmt::Write>(&self, f: &mut fmt::Formatter<W>) -> fmt::Result {
+        match self {
+            ExtFault::Overrun(offset) => write!(
+                f,
+                "the header extension at offset {offset} passes the end of the header"
+            ),
+            ExtFault::ZeroLength(offset) => {
+                write!(f, "the header extension at offset {offset} has no words")
+            }
+            ExtFault::FtiLength(offset) => {
+                write!(f, "the EXT_FTI at offset {offset} has not four words")
+            }
+            ExtFault::FluteVersion(version) => write!(f, "the FLUTE version is {version}, not 1"),
+        }
+    }
+}
+
+impl Error for ExtFault {}
+
+impl fmt::Display for PacketFault {
+    fn fmt<W: fmt::Write>(&self, f: &mut fmt::Formatter<W>) -> fmt::Result {
+        match self {
+            PacketFault::Lct(fault) => write!(f, "{fault}"),
+            PacketFault::Ext(fault) => write!(f, "{fault}"),
+            PacketFault::CodePoint(cp) => write!(f, "the codepoint is {cp}, above 1"),
+            PacketFault::NoPayloadId => write!(f, "the datagram ends before the FEC payload ID does"),
+        }
+    }
+}
+
+impl Error for PacketFault {}

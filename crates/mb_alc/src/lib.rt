@@ -9,7 +9,6 @@ mod packet;
 mod reader;
 mod writer;
 
-pub use extension::read_exts;
 pub use fault::{ExtFault, FaultKind, PacketFault};
 pub use law::packets_are_read;
 pub use packet::{Body, Exts, Fti, Packet};

@@ -48,8 +48,8 @@ fn body_of(bytes: &[u8], len: usize) -> Option<Body<'_>> {
     body(bytes.get(..len)?)
 }
 
-/// Where the TOI, the times and the extensions of a header begin.
-fn places(congestion: u8, flags: u8) -> (usize, usize, usize)
+/// The offsets of the TOI, the times and the extensions of a header.
+fn offsets(congestion: u8, flags: u8) -> (usize, usize, usize)
     requires { congestion < 4 }
     ensures { result.2 ≤ 48 }
 {
@@ -60,16 +60,16 @@ fn places(congestion: u8, flags: u8) -> (usize, usize, usize)
     (toi_at, times_at, ext_at)
 }
 
-/// A datagram with EXT_FDT, in which each byte behind the first word is equal to its place, but for the first
+/// A datagram with EXT_FDT, in which each byte behind the first word is equal to its index, but for the first
 /// two of EXT_FDT.
 fn datagram(congestion: u8, flags: u8) -> [u8; LONGEST]
     requires { congestion < 4 }
 {
     let mut bytes = [0; LONGEST];
-    for place in 0..LONGEST {
-        bytes[place] = place as u8;
+    for index in 0..LONGEST {
+        bytes[index] = index as u8;
     }
-    let ext_at = places(congestion, flags).2;
+    let ext_at = offsets(congestion, flags).2;
     bytes[0] = 16 + 4 * congestion;
     bytes[1] = flags;
     bytes[2] = (ext_at / 4) as u8 + 1;
@@ -79,11 +79,11 @@ fn datagram(congestion: u8, flags: u8) -> [u8; LONGEST]
     bytes
 }
 
-/// The number in the bytes from one place up to another, each equal to its place.
+/// The number in the bytes from one index up to another, each equal to its index.
 fn number(first: usize, end: usize) -> u128 {
     let mut number: u128 = 0;
-    for place in first..end {
-        number = number.wrapping_mul(256).wrapping_add(place as u128);
+    for index in first..end {
+        number = number.wrapping_mul(256).wrapping_add(index as u128);
     }
     number
 }
@@ -92,7 +92,7 @@ fn number(first: usize, end: usize) -> u128 {
 fn wanted(congestion: u8, flags: u8, bytes: &[u8; LONGEST]) -> Result<Packet<'_>, PacketFault>
     requires { congestion < 4 }
 {
-    let (toi_at, times_at, ext_at) = places(congestion, flags);
+    let (toi_at, times_at, ext_at) = offsets(congestion, flags);
     if flags & 0x90 == 0 {
         return Err(PacketFault::Lct(LctFault::NoTsi));
     }
@@ -132,7 +132,7 @@ fn assert_widths<R: Abort>(rt: &R) {
     }
 }
 
-/// Each extension, and each of their faults with its place.
+/// Each extension, and each of their faults with its offset.
 fn assert_extensions<R: Abort>(rt: &R) {
     let rows: [(&[u8], Result<Exts, ExtFault>); 24] = [
         (&[], Ok(Exts::NONE)),
@@ -186,7 +186,7 @@ fn assert_extensions<R: Abort>(rt: &R) {
                 None,
             )),
         ),
-        // Each fault, with its value or place.
+        // Each fault, with its value or offset.
         (&[0, 0, 0, 0], Err(ExtFault::ZeroLength(0))),
         (&[0, 1, 0, 0, 127, 0, 0, 0], Err(ExtFault::ZeroLength(4))),
         (&[0, 2, 0, 0], Err(ExtFault::Overrun(0))),

@@ -1,6 +1,7 @@
-ghost use Rattle.std.specs.Prelude.{◌≡◌, IfOk, IfErr};
+ghost use Rattle.std.specs.Prelude.{◌≡◌, ◌↔◌, Ok, Err};
+ghost use Rattle.mb_alc.specs.Packet as packet;
 ghost use Rattle.mb_alc.specs.Packet.{IsPacket, IsPacketFault, body_of, packet_of};
-ghost use Rattle.mb_alc.specs.Seen.{Sees, body_seen, packet_seen, SeesBody};
+ghost use Rattle.mb_alc.specs.PacketView.{Sees, SeesBody};
 
 use crate::extension::read_exts;
 use crate::fault::PacketFault;
@@ -30,18 +31,9 @@ fn read_body(bytes: &[u8]) -> Result<Option<Body<'_>>, PacketFault>
     Ok(Some(Body { sbn, esi, payload }))
 }
 
-/// Reads the packet that a datagram is (RFC 3450 section 2, RFC 3926). Its payload borrows the datagram. A packet
-/// that ends with its header has no body.
-///
-/// The faults, the first that holds:
-/// - `Lct`: it has no LCT header, as `read_lct` says.
-/// - `Ext`: the rest of the header is no list of extensions, as `read_exts` says.
-/// - `CodePoint`: the codepoint is above 1.
-/// - `NoPayloadId`: one to three bytes stand behind the header.
-pub fn read_packet(bytes: &[u8]) -> Result<Packet<'_>, PacketFault>
-    ensures exact { Sees result (packet_of bytes.now) }
-    ensures found { IfOk result (λ p. IsPacket bytes.now (packet_seen p)) }
-    ensures refused { IfErr result (λ fault. IsPacketFault bytes.now fault) }
+/// The packet by its parts one after another, or the first fault.
+fn packet_in(bytes: &[u8]) -> Result<Packet<'_>, PacketFault>
+    ensures { Sees result (packet_of bytes.now) }
 {
     let head = read_lct(bytes)?;
     let exts = read_exts(&bytes[head.ext_at..head.end])?;
@@ -54,4 +46,20 @@ pub fn read_packet(bytes: &[u8]) -> Result<Packet<'_>, PacketFault>
         exts,
         body,
     })
+}
+
+/// Reads the packet that a datagram is (RFC 3450 section 2, RFC 3926). Its payload borrows the datagram. A packet
+/// that ends with its header has no body.
+///
+/// The faults, the first that holds:
+/// - `Lct`: it has no LCT header, as `read_lct` says.
+/// - `Ext`: the rest of the header is no list of extensions, as `ExtFault` says.
+/// - `CodePoint`: the codepoint is above 1.
+/// - `NoPayloadId`: one to three bytes stand behind the header.
+pub fn read_packet(bytes: &[u8]) -> Result<Packet<'_>, PacketFault>
+    ensures exact { Sees result (packet_of bytes.now) }
+    ensures found { (p : packet.Packet) → IsPacket bytes.now p ↔ Sees result (Ok p) }
+    ensures refused { (fault : PacketFault) → IsPacketFault bytes.now fault ↔ (result ≡ Err fault) }
+{
+    packet_in(bytes)
 }

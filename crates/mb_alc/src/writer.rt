@@ -1,24 +1,17 @@
 ghost use Rattle.std.specs.Prelude.{◌≡◌, ◌+◌, ◌*◌, ◌^◌, ◌<◌, ◌≤◌, ◌++◌, ◌↔◌, length, option_map, Ok, IsTrue, IfSome, OnOk, OnErr, vec_len, vec_capacity};
-ghost use Rattle.mb_lct.specs.Written.{FitsHeader};
-ghost use Rattle.mb_alc.specs.Packet.{packet_of};
-ghost use Rattle.mb_alc.specs.Seen.{body_seen, packet_seen};
+ghost use Rattle.mb_alc.specs.Packet.{IsPacket, packet_of};
+ghost use Rattle.mb_alc.specs.PacketView.{body_seen, packet_seen};
 ghost use Rattle.mb_alc.specs.Written as written;
-ghost use Rattle.mb_alc.specs.Written.{fdt_bytes, fti_bytes, cenc_bytes, words_if, body_bytes, packet_bytes, room_for, FitsPacket, HasWidths};
+ghost use Rattle.mb_alc.specs.Written.{fdt_bytes, fti_bytes, cenc_bytes, words_if, body_bytes, packet_bytes, FitsPacket, HasWidths};
 
-use crate::extension::{CENC, FTI, FTI_WORDS, INSTANCE_IDS, WORD};
+use crate::extension::{CENC, FDT, FLUTE_VERSION, FTI, FTI_WORDS, INSTANCE_IDS};
 use crate::packet::{Body, Exts, Fti, Packet};
 use crate::reader::{CODE_POINT_MAX, PAYLOAD_ID};
 use mb_base::{DATAGRAM_MAX, Memory, put_be16, put_be32, put_be48};
-use mb_lct::{fits_header, write_lct};
-
-/// The most bytes of a header without its extensions.
-const FIELDS_MAX: usize = 28;
-
-/// The most words of a header.
-const WORDS_MAX: u8 = 255;
+use mb_lct::{WORD, fits_header, header_words, write_lct};
 
 /// EXT_FDT of FLUTE version 1 with FDT Instance ID 0, which is a single word.
-const FIRST_INSTANCE: u32 = 0xc010_0000;
+const FIRST_INSTANCE: u32 = FDT as u32 * (1 << 24) + FLUTE_VERSION as u32 * INSTANCE_IDS;
 
 /// The first transfer length that is too long.
 const TRANSFER_END: u64 = 1 << 48;
@@ -37,7 +30,8 @@ fn ext_words(exts: Exts) -> u8
 
 /// The bytes of the FEC payload ID and the payload.
 fn body_size(body: &Option<Body<'_>>) -> usize
-    ensures { result ≡ length (body_bytes (option_map body_seen body.now)) }
+    ensures exact { result ≡ length (body_bytes (option_map body_seen body.now)) }
+    ensures most { result < 2 ^ 63 + 4 }
 {
     match body {
         Some(body) => PAYLOAD_ID + body.payload.len(),
@@ -45,20 +39,12 @@ fn body_size(body: &Option<Body<'_>>) -> usize
     }
 }
 
-/// Whether the header can be written with its extensions, and the packet is a datagram.
-fn header_fits(p: &Packet<'_>) -> bool
-    ensures { IsTrue result
-        ↔ (FitsHeader p.now.lct (written.ext_words p.now.exts)
-        × (length (packet_bytes (packet_seen p.now)) ≤ 65535)) }
+/// The bytes of the packet.
+fn packet_size(p: &Packet<'_>) -> usize
+    ensures { result ≡ length (packet_bytes (packet_seen p.now)) }
 {
-    let behind = body_size(&p.body);
-    if behind > DATAGRAM_MAX {
-        return false;
-    }
-    let words = ext_words(p.exts);
-    let most = u8::try_from((DATAGRAM_MAX - behind) / WORD).unwrap_or(WORDS_MAX);
-    // A word for which the datagram has no room counts as one that is taken.
-    words <= most && fits_header(&p.lct, words + (WORDS_MAX - most))
+    let words = header_words(&p.lct) + ext_words(p.exts);
+    WORD * usize::from(words) + body_size(&p.body)
 }
 
 /// Whether the packet can be written: its header as `fits_header` of `mb_lct` says, a codepoint of 0 or 1, an
@@ -66,10 +52,11 @@ fn header_fits(p: &Packet<'_>) -> bool
 pub fn fits_packet(p: &Packet<'_>) -> bool
     ensures { IsTrue result ↔ FitsPacket (packet_seen p.now) }
 {
-    p.lct.cp <= CODE_POINT_MAX
+    fits_header(&p.lct, ext_words(p.exts))
+        && p.lct.cp <= CODE_POINT_MAX
         && p.exts.fdt.is_none_or(|id| id < INSTANCE_IDS)
         && p.exts.fti.is_none_or(|fti| fti.transfer < TRANSFER_END)
-        && header_fits(p)
+        && packet_size(p) <= DATAGRAM_MAX
 }
 
 /// Appends EXT_FDT, if there is one (RFC 3926 section 3.4.1).
@@ -140,16 +127,16 @@ fn put_body(body: &Option<Body<'_>>, out: &mut Vec<u8>) -> Result<(), Memory>
 }
 
 /// Appends the parts of the packet.
-fn put_parts(p: &Packet<'_>, words: u8, out: &mut Vec<u8>) -> Result<(), Memory>
-    requires fits { FitsPacket (packet_seen p.now) }
-    requires words { words ≡ written.ext_words p.now.exts }
+fn put_parts(p: &Packet<'_>, out: &mut Vec<u8>) -> Result<(), Memory>
+    requires { FitsPacket (packet_seen p.now) }
     ensures appended { OnOk result (out.new.items ≡ out.old.items ++ packet_bytes (packet_seen p.now)) }
-    ensures full { OnErr result (vec_capacity out.old < vec_len out.old + room_for (packet_seen p.now)) }
+    ensures full { OnErr result (vec_capacity out.old < vec_len out.old + length (packet_bytes (packet_seen p.now))) }
     ensures room { vec_capacity out.old ≤ vec_capacity out.new }
 
     // What the types say, as reading back needs it.
     ensures widths { OnOk result (HasWidths (packet_seen p.now)) }
 {
+    let words = ext_words(p.exts);
     write_lct(&p.lct, words, out)?;
     put_fdt(p.exts.fdt, out)?;
     put_fti(p.exts.fti, out)?;
@@ -160,18 +147,18 @@ fn put_parts(p: &Packet<'_>, words: u8, out: &mut Vec<u8>) -> Result<(), Memory>
 
 /// Appends the packet (RFC 3450 section 2): its LCT header as `write_lct` writes it, EXT_FDT, EXT_FTI and
 /// EXT_CENC as far as it has them, and its body. `read_packet` reads it back. `Memory` where there is no room
-/// for it with the longest header; the bytes are then as before.
+/// for all of it; the bytes are then as before.
 pub fn write_packet(p: &Packet<'_>, out: &mut Vec<u8>) -> Result<(), Memory>
     requires { FitsPacket (packet_seen p.now) }
     ensures appended { OnOk result (out.new.items ≡ out.old.items ++ packet_bytes (packet_seen p.now)) }
+    ensures written { OnOk result (IsPacket (packet_bytes (packet_seen p.now)) (packet_seen p.now)) }
     ensures read_back { OnOk result (packet_of (packet_bytes (packet_seen p.now)) ≡ Ok (packet_seen p.now)) }
     ensures kept { OnErr result (out.new.items ≡ out.old.items) }
-    ensures full { OnErr result (vec_capacity out.old < vec_len out.old + room_for (packet_seen p.now)) }
+    ensures full { OnErr result (vec_capacity out.old < vec_len out.old + length (packet_bytes (packet_seen p.now))) }
     ensures room { vec_capacity out.old ≤ vec_capacity out.new }
 {
-    let words = ext_words(p.exts);
     // With the room taken first, nothing after it can fail half-way.
-    out.reserve(FIELDS_MAX + WORD * usize::from(words) + body_size(&p.body))?;
-    put_parts(p, words, out)?;
+    out.reserve(packet_size(p))?;
+    put_parts(p, out)?;
     Ok(())
 }

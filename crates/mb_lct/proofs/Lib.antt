@@ -1,3 +1,4 @@
 pub mod FieldLemmas
+pub mod HeaderLemmas
 pub mod ReadLemmas
 pub mod WriteLemmas

@@ -1,5 +1,6 @@
--- The LCT header (RFC 3451 section 5.1): where each field stands in a datagram, and what a header says.
-use Rattle.std.specs.Prelude.{◌≡◌, ℕ, ◌+◌, ◌*◌, ◌/◌, ◌%◌, ◌<◌, ◌≤◌, ◌==◌, ◌||◌, Bool, not, nat_lt, if◌then◌else◌, List, length, slice_index, slice_range, Option, Some, None, Result, Ok, Err}
+-- The LCT header (RFC 3451 section 5.1) as a function: where each field stands in a datagram, and what they say.
+-- `Header` says the same by the fields one after another.
+use Rattle.std.specs.Prelude.{ℕ, ◌+◌, ◌*◌, ◌/◌, ◌%◌, ◌==◌, ◌||◌, Bool, not, nat_lt, if◌then◌else◌, List, length, slice_index, slice_range, Option, Some, None, Result, Ok, Err}
 use Rattle.mb_base.specs.Number.{be_number}
 use Rattle.mb_lct.specs.declared.head.LctHead.{LctHead}
 use Rattle.mb_lct.specs.declared.head.LctFault.{LctFault}
@@ -52,7 +53,7 @@ header_length bytes = slice_index bytes 2
 abbrev pub codepoint : List ℕ → ℕ
 codepoint bytes = slice_index bytes 3
 
--- ---- the places, in bytes from the start
+-- ---- the offsets, in bytes from the start
 
 -- the TSI stands behind the first word and the C + 1 words of the CCI
 abbrev pub tsi_at : List ℕ → ℕ
@@ -76,7 +77,7 @@ end_at bytes = 4 * header_length bytes
 
 -- ---- what a header says
 
--- the number in the bytes from one place up to another
+-- the number in the bytes from one offset up to another
 abbrev pub number_between : List ℕ → ℕ → ℕ → ℕ
 number_between bytes first end = be_number (slice_range bytes first end)
 
@@ -96,15 +97,6 @@ head_of bytes = record {
   ext_at = ext_at bytes;
   end = end_at bytes;
 }
-
--- a datagram begins with a header that says this
-pub record IsLct (bytes : List ℕ) (head : LctHead) : Type 0 where
-  pub first_word : 4 ≤ length bytes
-  pub whole : end_at bytes ≤ length bytes
-  pub version : version bytes ≡ 1
-  pub fields : ext_at bytes ≤ end_at bytes
-  pub session : tsi_at bytes < toi_at bytes
-  pub says : head ≡ head_of bytes
 
 -- the header at the front, or its fault: the first of these conditions that holds
 unfoldable pub lct_of : List ℕ → Result LctHead LctFault

@@ -1,3 +1,4 @@
+pub mod Header
 pub mod Lct
 pub mod Written
 pub mod Laws

@@ -1,7 +1,8 @@
 -- The LCT header that is written (RFC 3451 section 5.1): version 1, C = 0 with a CCI of 0, no times, S = 1.
-use Rattle.std.specs.Prelude.{ℕ, ◌+◌, ◌*◌, ◌^◌, ◌<◌, ◌≤◌, ◌||◌, Bool, true, false, nat_lt, nat_le, if◌then◌else◌, List, [], ◌∷◌, ◌++◌, Option, Some, None, unwrap_or, IfNone}
+use Rattle.std.specs.Prelude.{ℕ, ◌+◌, ◌*◌, ◌^◌, ◌<◌, ◌≤◌, ◌||◌, Bool, true, false, nat_lt, nat_le, if◌then◌else◌, List, [], ◌∷◌, ◌++◌, length, Option, Some, None, unwrap_or, IfNone}
 use Rattle.std.specs.Int.{from_bool}
 use Rattle.mb_base.specs.Number.{be_bytes}
+use Rattle.mb_lct.specs.Header.{IsLct}
 use Rattle.mb_lct.specs.declared.head.Lct.{Lct}
 
 -- whether H is set: the TSI has more than 32 bits, or the TOI more than 96
@@ -45,6 +46,11 @@ first_bytes lct ext_words = 16 ∷ flags_of lct ∷ (words_of lct + ext_words) �
 unfoldable pub lct_bytes : Lct → ℕ → List ℕ
 lct_bytes lct ext_words =
     first_bytes lct ext_words ++ be_bytes (tsi_width lct) lct.tsi ++ be_bytes (toi_width lct) (unwrap_or lct.toi 0)
+
+-- the bytes, with so many words of extensions and with anything behind them, begin with a header that says this
+abbrev pub IsWritten : Lct → ℕ → List ℕ → Type 0
+IsWritten lct ext_words bytes = (more : List ℕ) → 4 * ext_words ≤ length more
+    → IsLct (bytes ++ more) (record { lct = lct; ext_at = length bytes; end = length bytes + 4 * ext_words })
 
 -- the fields fit a header with so many words of extensions
 pub record FitsHeader (lct : Lct) (ext_words : ℕ) : Type 0 where

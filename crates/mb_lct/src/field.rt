@@ -13,7 +13,7 @@ const BYTE: u64 = 256;
 const SHORT_MAX: usize = 8;
 
 /// The number above each of so many bytes.
-const SHORT_END: u128 = 1 << 64;
+const SHORT_END: u128 = 1 << (8 * SHORT_MAX);
 
 /// The number that at most eight bytes stand for.
 fn read_short(bytes: &[u8]) -> u64

@@ -1,8 +1,11 @@
-/// The bytes of a word, the unit in which a header's length is counted.
-pub(crate) const WORD: usize = 4;
+use std::error::Error;
+use std::fmt;
+
+/// The bytes of a word, in which the lengths of a header and of its extensions are counted.
+pub const WORD: usize = 4;
 
 /// The bytes of a half word.
-pub(crate) const HALF_WORD: usize = 2;
+pub(crate) const HALF_WORD: usize = WORD / 2;
 
 /// The version of LCT that is spoken (RFC 3451 section 5.1).
 pub(crate) const VERSION: u8 = 1;
@@ -14,28 +17,28 @@ pub(crate) const TWO_BITS: u8 = 4;
 pub(crate) const ONE_BIT: u8 = 2;
 
 /// The weight of V in the first byte.
-pub(crate) const VERSION_PLACE: u8 = 16;
+pub(crate) const VERSION_WEIGHT: u8 = 16;
 
 /// The weight of C in the first byte.
-pub(crate) const CONGESTION_PLACE: u8 = 4;
+pub(crate) const CONGESTION_WEIGHT: u8 = 4;
 
 /// The weight of S in the second byte.
-pub(crate) const TSI_PLACE: u8 = 128;
+pub(crate) const TSI_WEIGHT: u8 = 128;
 
 /// The weight of O in the second byte.
-pub(crate) const TOI_PLACE: u8 = 32;
+pub(crate) const TOI_WEIGHT: u8 = 32;
 
 /// The weight of H in the second byte.
-pub(crate) const HALF_WORD_PLACE: u8 = 16;
+pub(crate) const HALF_WORD_WEIGHT: u8 = 16;
 
 /// The weight of T in the second byte.
-pub(crate) const CURRENT_TIME_PLACE: u8 = 8;
+pub(crate) const CURRENT_TIME_WEIGHT: u8 = 8;
 
 /// The weight of R in the second byte.
-pub(crate) const RESIDUAL_TIME_PLACE: u8 = 4;
+pub(crate) const RESIDUAL_TIME_WEIGHT: u8 = 4;
 
 /// The weight of A in the second byte.
-pub(crate) const CLOSE_SESSION_PLACE: u8 = 2;
+pub(crate) const CLOSE_SESSION_WEIGHT: u8 = 2;
 
 /// What an LCT header says of its datagram (RFC 3451 section 5.1).
 #[derive(Clone, Copy, Debug, PartialEq, Eq)]
@@ -57,9 +60,9 @@ pub struct Lct {
 pub struct LctHead {
     /// What it says.
     pub lct: Lct,
-    /// The place where its extensions begin, in bytes from the start of the datagram.
+    /// The offset of its extensions, in bytes from the start of the datagram.
     pub ext_at: usize,
-    /// The place where it ends, in bytes from the start of the datagram.
+    /// The offset of its end, in bytes from the start of the datagram.
     pub end: usize,
 }
 
@@ -75,3 +78,16 @@ pub enum LctFault {
     /// The TSI has no bits.
     NoTsi,
 }
+
+impl fmt::Display for LctFault {
+    fn fmt<W: fmt::Write>(&self, f: &mut fmt::Formatter<W>) -> fmt::Result {
+        match self {
+            LctFault::Short => write!(f, "the datagram ends before the LCT header does"),
+            LctFault::Version(version) => write!(f, "the LCT version is {version}, not 1"),
+            LctFault::HeaderLength => write!(f, "the LCT header ends before its fields do"),
+            LctFault::NoTsi => write!(f, "the LCT header has no TSI"),
+        }
+    }
+}
+
+impl Error for LctFault {}

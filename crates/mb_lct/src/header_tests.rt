@@ -19,13 +19,13 @@ fn lct(tsi: u64, toi: Option<u128>, close_session: bool) -> Lct {
     }
 }
 
-/// A header with each byte behind its first word equal to its place.
+/// A header with each byte behind its first word equal to its index.
 fn header(congestion: u8, flags: u8) -> [u8; LONGEST]
     requires { congestion < 4 }
 {
     let mut bytes = [0; LONGEST];
-    for place in 0..LONGEST {
-        bytes[place] = place as u8;
+    for index in 0..LONGEST {
+        bytes[index] = index as u8;
     }
     bytes[0] = 16 + 4 * congestion;
     bytes[1] = flags;
@@ -34,11 +34,11 @@ fn header(congestion: u8, flags: u8) -> [u8; LONGEST]
     bytes
 }
 
-/// The number in the bytes from one place up to another, each equal to its place.
+/// The number in the bytes from one index up to another, each equal to its index.
 fn number(first: usize, end: usize) -> u128 {
     let mut number: u128 = 0;
-    for place in first..end {
-        number = number.wrapping_mul(256).wrapping_add(place as u128);
+    for index in first..end {
+        number = number.wrapping_mul(256).wrapping_add(index as u128);
     }
     number
 }

@@ -7,10 +7,10 @@ mod law;
 mod reader;
 mod writer;
 
-pub use head::{Lct, LctFault, LctHead};
+pub use head::{Lct, LctFault, LctHead, WORD};
 pub use law::lct_headers_are_read;
 pub use reader::read_lct;
-pub use writer::{fits_header, write_lct};
+pub use writer::{fits_header, header_words, write_lct};
 
 #[cfg(test)]
 mod header_tests;

@@ -1,19 +1,20 @@
-ghost use Rattle.std.specs.Prelude.{◌≡◌, ◌+◌, ◌*◌, ◌^◌, ◌<◌, ◌≤◌, length, IfOk, IfSome};
+ghost use Rattle.std.specs.Prelude.{◌≡◌, ◌+◌, ◌*◌, ◌^◌, ◌<◌, ◌≤◌, ◌↔◌, length, Ok, Err, IfOk, IfSome};
 ghost use Rattle.mb_lct.specs.Lct as lct;
-ghost use Rattle.mb_lct.specs.Lct.{IsLct, lct_of, head_of, version};
+ghost use Rattle.mb_lct.specs.Header.{IsLct, IsLctFault};
+ghost use Rattle.mb_lct.specs.Lct.{lct_of, head_of, version};
 
 use crate::field::{read_toi, read_tsi};
 use crate::head::*;
 
-/// The place of a header's length in words.
+/// The index of the byte that has a header's length in words.
 const LENGTH_AT: usize = 2;
 
-/// The place of the codepoint.
+/// The index of the codepoint.
 const CODEPOINT_AT: usize = 3;
 
-/// Where the fields of a header begin, in bytes from its start.
+/// The offsets of a header's fields, in bytes from its start.
 #[derive(Clone, Copy)]
-struct Places {
+struct Offsets {
     tsi: usize,
     toi: usize,
     times: usize,
@@ -22,7 +23,7 @@ struct Places {
 }
 
 /// Where the fields stand, by the first word.
-fn places_in(bytes: &[u8]) -> Places
+fn offsets_in(bytes: &[u8]) -> Offsets
     requires { 4 ≤ length bytes.now }
     ensures tsi { result.tsi ≡ lct.tsi_at bytes.now }
     ensures toi { result.toi ≡ lct.toi_at bytes.now }
@@ -31,14 +32,14 @@ fn places_in(bytes: &[u8]) -> Places
     ensures end { result.end ≡ lct.end_at bytes.now }
 {
     let flags = bytes[1];
-    let half = HALF_WORD * usize::from(flags / HALF_WORD_PLACE % ONE_BIT);
-    let tsi = WORD + WORD * (usize::from(bytes[0] / CONGESTION_PLACE % TWO_BITS) + 1);
-    let toi = tsi + WORD * usize::from(flags / TSI_PLACE % ONE_BIT) + half;
-    let times = toi + WORD * usize::from(flags / TOI_PLACE % TWO_BITS) + half;
-    let current = WORD * usize::from(flags / CURRENT_TIME_PLACE % ONE_BIT);
-    let residual = WORD * usize::from(flags / RESIDUAL_TIME_PLACE % ONE_BIT);
+    let half = HALF_WORD * usize::from(flags / HALF_WORD_WEIGHT % ONE_BIT);
+    let tsi = WORD + WORD * (usize::from(bytes[0] / CONGESTION_WEIGHT % TWO_BITS) + 1);
+    let toi = tsi + WORD * usize::from(flags / TSI_WEIGHT % ONE_BIT) + half;
+    let times = toi + WORD * usize::from(flags / TOI_WEIGHT % TWO_BITS) + half;
+    let current = WORD * usize::from(flags / CURRENT_TIME_WEIGHT % ONE_BIT);
+    let residual = WORD * usize::from(flags / RESIDUAL_TIME_WEIGHT % ONE_BIT);
     let end = WORD * usize::from(bytes[LENGTH_AT]);
-    Places {
+    Offsets {
         tsi,
         toi,
         times,
@@ -48,31 +49,60 @@ fn places_in(bytes: &[u8]) -> Places
 }
 
 /// What the fields say, all of which are there.
-fn head_at(bytes: &[u8], places: &Places) -> LctHead
-    requires tsi { places.now.tsi ≡ lct.tsi_at bytes.now }
-    requires toi { places.now.toi ≡ lct.toi_at bytes.now }
-    requires times { places.now.times ≡ lct.times_at bytes.now }
-    requires extensions { places.now.extensions ≡ lct.ext_at bytes.now }
-    requires end { places.now.end ≡ lct.end_at bytes.now }
-    requires within { places.now.extensions ≤ places.now.end }
-    requires whole { places.now.end ≤ length bytes.now }
+fn head_at(bytes: &[u8], offsets: &Offsets) -> LctHead
+    requires tsi { offsets.now.tsi ≡ lct.tsi_at bytes.now }
+    requires toi { offsets.now.toi ≡ lct.toi_at bytes.now }
+    requires times { offsets.now.times ≡ lct.times_at bytes.now }
+    requires extensions { offsets.now.extensions ≡ lct.ext_at bytes.now }
+    requires end { offsets.now.end ≡ lct.end_at bytes.now }
+    requires within { offsets.now.extensions ≤ offsets.now.end }
+    requires whole { offsets.now.end ≤ length bytes.now }
     ensures exact { result ≡ head_of bytes.now }
     ensures tsi { result.lct.tsi < 2 ^ 48 }
     ensures toi { IfSome result.lct.toi (λ toi. toi < 2 ^ 112) }
 {
     let flags = bytes[1];
     let lct = Lct {
-        tsi: read_tsi(&bytes[places.tsi..places.toi]),
-        toi: read_toi(&bytes[places.toi..places.times]),
-        close_session: flags / CLOSE_SESSION_PLACE % ONE_BIT == 1,
+        tsi: read_tsi(&bytes[offsets.tsi..offsets.toi]),
+        toi: read_toi(&bytes[offsets.toi..offsets.times]),
+        close_session: flags / CLOSE_SESSION_WEIGHT % ONE_BIT == 1,
         close_object: flags % ONE_BIT == 1,
         cp: bytes[CODEPOINT_AT],
     };
     LctHead {
         lct,
-        ext_at: places.extensions,
-        end: places.end,
+        ext_at: offsets.extensions,
+        end: offsets.end,
     }
+}
+
+/// The header by where its fields stand, or the first fault.
+#[tactic(auto, unfolding(crate::specs::Lct::lct_of))]
+fn header_in(bytes: &[u8]) -> Result<LctHead, LctFault>
+    ensures exact { result ≡ lct_of bytes.now }
+    ensures tsi { IfOk result (λ head. head.lct.tsi < 2 ^ 48) }
+    ensures toi { IfOk result (λ head. IfSome head.lct.toi (λ toi. toi < 2 ^ 112)) }
+    ensures extensions { IfOk result (λ head. head.ext_at ≤ head.end) }
+    ensures within { IfOk result (λ head. head.end ≤ length bytes.now) }
+{
+    if bytes.len() < WORD {
+        return Err(LctFault::Short);
+    }
+    let offsets = offsets_in(bytes);
+    if bytes.len() < offsets.end {
+        return Err(LctFault::Short);
+    }
+    let version = bytes[0] / VERSION_WEIGHT;
+    if version != VERSION {
+        return Err(LctFault::Version(version));
+    }
+    if offsets.end < offsets.extensions {
+        return Err(LctFault::HeaderLength);
+    }
+    if offsets.tsi == offsets.toi {
+        return Err(LctFault::NoTsi);
+    }
+    Ok(head_at(bytes, &offsets))
 }
 
 /// Reads the LCT header at the front of a datagram (RFC 3451 section 5.1). Its extensions are the bytes
@@ -83,31 +113,14 @@ fn head_at(bytes: &[u8], places: &Places) -> LctHead
 /// - `Version`: the version, where it is not 1.
 /// - `HeaderLength`: the header ends before its fields do.
 /// - `NoTsi`: the TSI has no bits.
-#[tactic(auto, unfolding(crate::specs::Lct::lct_of))]
 pub fn read_lct(bytes: &[u8]) -> Result<LctHead, LctFault>
     ensures exact { result ≡ lct_of bytes.now }
-    ensures found { IfOk result (λ head. IsLct bytes.now head) }
+    ensures found { (head : LctHead) → IsLct bytes.now head ↔ (result ≡ Ok head) }
+    ensures refused { (fault : LctFault) → IsLctFault bytes.now fault ↔ (result ≡ Err fault) }
     ensures tsi { IfOk result (λ head. head.lct.tsi < 2 ^ 48) }
     ensures toi { IfOk result (λ head. IfSome head.lct.toi (λ toi. toi < 2 ^ 112)) }
     ensures extensions { IfOk result (λ head. head.ext_at ≤ head.end) }
     ensures within { IfOk result (λ head. head.end ≤ length bytes.now) }
 {
-    if bytes.len() < WORD {
-        return Err(LctFault::Short);
-    }
-    let places = places_in(bytes);
-    if bytes.len() < places.end {
-        return Err(LctFault::Short);
-    }
-    let version = bytes[0] / VERSION_PLACE;
-    if version != VERSION {
-        return Err(LctFault::Version(version));
-    }
-    if places.end < places.extensions {
-        return Err(LctFault::HeaderLength);
-    }
-    if places.tsi == places.toi {
-        return Err(LctFault::NoTsi);
-    }
-    Ok(head_at(bytes, &places))
+    header_in(bytes)
 }
