@@ -1,16 +1,16 @@
 -- Lemmas on what the parts of a packet say: by the parts joined, and by where they stand.
-use Rattle.std.proofs.Common.{◌≡◌, ℕ, ◌+◌, ◌-◌, ◌*◌, ◌/◌, ◌%◌, ◌^◌, ◌<◌, ◌≤◌, ◌==◌, nat_lt, cond, Bool, true, false, List, [], ◌∷◌, ◌++◌, length, take, drop, slice_index, Option, Some, None, option_map, refl, sym, ap, ap₂, subst, ◌∙◌, arith, length-append, length-take-le, length-drop, take_all}
+use Rattle.std.proofs.Common.{◌≡◌, ℕ, ◌+◌, ◌-◌, ◌*◌, ◌/◌, ◌%◌, ◌^◌, ◌<◌, ◌≤◌, ◌==◌, nat_lt, cond, Bool, true, false, List, [], ◌∷◌, ◌++◌, length, take, drop, slice_index, Option, Some, None, option_map, refl, sym, ap, ap₂, subst, ◌∙◌, arith, length-drop, take_all}
 use Rattle.std.specs.List.{AllByRecursion, concat, slice_range}
 use Rattle.std.specs.Option.{option_or}
 use Rattle.std.proofs.lemmas.Grind.{common_steps}
-use Rattle.std.proofs.lemmas.List.Elements.{All-head, All-tail, All-take, All-drop}
+use Rattle.std.proofs.lemmas.List.Elements.{All-tail, All-take, All-drop}
 use Rattle.std.proofs.Math.Seq.{take-append_seam, drop-append_seam}
 use Rattle.mb_base.specs.Number.{AreBytes, be_number, be_bytes}
-use Rattle.mb_base.proofs.NumberLemmas.{numbers_read_back, bytes_written_back, be_number-below, be_number-cons, length-be_bytes}
+use Rattle.mb_base.proofs.NumberLemmas.{numbers_read_back, bytes_written_back, be_number-below, be_number-cons}
 use Rattle.mb_lct.proofs.HeaderLemmas.{size-between, cut}
 use Rattle.mb_lct.specs.Lct.{number_between}
 use Rattle.mb_alc.specs.Extensions.{IsExtension, het, hel, fdt_extension, fti_extension, IsFdt, IsFti, IsCenc, first_of, Says, instance_id, fti_of, algorithm}
-use Rattle.mb_alc.specs.Packet.{Body, body_parts, body_in, IsBody}
+use Rattle.mb_alc.specs.Packet.{Body, body_in, IsBody}
 use Rattle.mb_alc.specs.declared.packet.Fti.{Fti}
 
 -- ---- a number in its bytes

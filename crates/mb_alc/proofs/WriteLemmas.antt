@@ -1,22 +1,18 @@
 -- Lemmas on the writing of a packet: that it is read back.
-use Rattle.std.proofs.Common.{◌≡◌, ℕ, ◌+◌, ◌-◌, ◌*◌, ◌/◌, ◌%◌, ◌^◌, ◌<◌, ◌≤◌, ◌==◌, nat_le, cond, false, Result, Err, OnErr, IsTrue, ◌↔◌, inl, inr, List, [], ◌∷◌, ◌++◌, length, take, drop, Option, Some, None, Ok, IfSome, refl, sym, ap, ap₂, subst, ◌∙◌, arith, append_assoc, append-nil, length-append, take_all}
+use Rattle.std.proofs.Common.{◌≡◌, ℕ, ◌+◌, ◌-◌, ◌*◌, ◌/◌, ◌%◌, ◌^◌, ◌<◌, ◌==◌, cond, Result, Err, OnErr, List, [], ◌∷◌, ◌++◌, length, take, drop, Option, Some, None, Ok, IfSome, refl, sym, ap, ap₂, subst, ◌∙◌, arith, append_assoc, append-nil, length-append}
 use Rattle.std.specs.List.{slice_range}
 use Rattle.std.specs.Prelude.{option_map}
-use Rattle.std.specs.Result.{OkIff, result_unwrap_or}
-use Rattle.std.proofs.lemmas.Bool.{cases_lt}
-use Rattle.std.proofs.lemmas.Grind.{common_steps}
 use Rattle.std.specs.Option.{option_or}
 use Rattle.std.proofs.Math.Seq.{take-append_seam, drop-append_seam}
-use Rattle.mb_base.specs.Number.{be_number, be_bytes}
-use Rattle.mb_base.proofs.NumberLemmas.{numbers_read_back, be_bytes-cons, be_bytes-above, be_number-cons}
+use Rattle.mb_base.specs.Number.{be_bytes}
+use Rattle.mb_base.proofs.NumberLemmas.{be_bytes-cons, be_bytes-above}
 use Rattle.std.proofs.lemmas.List.Folds.{find-append}
 use Rattle.mb_lct.specs.Header.{IsLct}
-use Rattle.mb_lct.specs.declared.head.Lct.{Lct}
-use Rattle.mb_lct.specs.Written.{FitsHeader, lct_bytes, words_of}
+use Rattle.mb_lct.specs.Written.{lct_bytes, words_of}
 use Rattle.mb_lct.specs.declared.head.LctHead.{LctHead}
 use Rattle.mb_lct.proofs.WriteLemmas.{headers_written, headers_short}
 use Rattle.mb_alc.specs.Extensions.{IsExtension, IsExts, het, first_of, Says, IsFdt, IsFti, IsCenc, fdt_extension, fti_extension}
-use Rattle.mb_alc.specs.Packet.{Body, Packet, IsBody, IsPacket, area, behind}
+use Rattle.mb_alc.specs.Packet.{Body, Packet, IsBody, area}
 use Rattle.mb_alc.specs.Written.{FitsPacket, HasWidths, fdt_bytes, fti_bytes, cenc_bytes, ext_bytes, words_if, ext_words, body_bytes, packet_bytes}
 use Rattle.mb_alc.specs.Laws.{PacketsAreWritten, PacketsAreReadBack}
 use Rattle.mb_alc.specs.PacketView.{body_seen}

@@ -1,6 +1,6 @@
 -- The packet that is written (RFC 3450 section 2): its LCT header, EXT_FDT, EXT_FTI and EXT_CENC as far as it has
 -- them (RFC 3926 sections 3.4.1, 5.1.1 and 3.4.3), and its body.
-use Rattle.std.specs.Prelude.{◌≡◌, ℕ, ◌+◌, ◌*◌, ◌^◌, ◌<◌, ◌≤◌, List, [], ◌∷◌, ◌++◌, length, Option, Some, None, IfSome}
+use Rattle.std.specs.Prelude.{◌≡◌, ℕ, ◌+◌, ◌^◌, ◌<◌, ◌≤◌, List, [], ◌∷◌, ◌++◌, length, Option, Some, None, IfSome}
 use Rattle.mb_lct.specs.Written.{FitsHeader, lct_bytes}
 use Rattle.mb_alc.specs.Extensions.{fdt_extension, fti_extension, cenc_extension}
 use Rattle.mb_alc.specs.Packet.{Body, Packet, body_parts}

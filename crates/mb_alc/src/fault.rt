@@ -155,7 +155,10 @@ impl fmt::Display for PacketFault {
             PacketFault::Lct(fault) => write!(f, "{fault}"),
             PacketFault::Ext(fault) => write!(f, "{fault}"),
             PacketFault::CodePoint(cp) => write!(f, "the codepoint is {cp}, above 1"),
-            PacketFault::NoPayloadId => write!(f, "the datagram ends before the FEC payload ID does"),
+            PacketFault::NoPayloadId => write!(
+                f,
+                "the datagram ends before the FEC payload ID does"
+            ),
         }
     }
 }

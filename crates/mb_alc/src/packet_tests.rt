@@ -1,6 +1,7 @@
 ghost use Rattle.std.specs.Prelude.{◌≡◌, ◌<◌, ◌≤◌, IfOk, vec_len};
 
 use super::*;
+use crate::extension::read_exts;
 use mb_base::Memory;
 use mb_lct::{Lct, LctFault};
 use std::alloc::Global;
@@ -471,4 +472,23 @@ fn every_fault_has_its_word(rt: HostRuntime) {
     ] {
         assert_eq!(rt; fault.word(), word);
     }
+}
+
+#[test]
+fn faults_are_shown(rt: HostRuntime) -> Result<(), Memory> {
+    for (fault, text) in [
+        (
+            PacketFault::Lct(LctFault::Version(2)),
+            "the LCT version is 2, not 1",
+        ),
+        (
+            PacketFault::Ext(ExtFault::Overrun(8)),
+            "the header extension at offset 8 passes the end of the header",
+        ),
+        (PacketFault::CodePoint(9), "the codepoint is 9, above 1"),
+    ] {
+        let shown = format!(in rt.alloc(); "{fault}")?;
+        assert_eq!(rt; shown.as_str(), text);
+    }
+    Ok(())
 }

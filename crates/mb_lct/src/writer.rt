@@ -113,7 +113,9 @@ pub fn fits_header(lct: &Lct, ext_words: u8) -> bool
     } else {
         TSI_WITH_HALF
     };
-    lct.tsi < tsi_end && lct.toi.unwrap_or(0) < TOI_END && ext_words <= WORDS_MAX - header_words(lct)
+    lct.tsi < tsi_end
+        && lct.toi.unwrap_or(0) < TOI_END
+        && ext_words <= WORDS_MAX - header_words(lct)
 }
 
 /// Appends the header (RFC 3451 section 5.1), to be followed by `ext_words` words of extensions: version 1,
