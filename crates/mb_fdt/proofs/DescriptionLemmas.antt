@@ -3,11 +3,11 @@ use Rattle.std.proofs.Common.{◌≡◌, ℕ, List, [], Option, Some, None, unwr
 use Rattle.std.specs.Result.{result_err}
 use Rattle.mb_geom.specs.Description.{Description, described, description_of, refusals, first_fault, ok_unless, block_sizes}
 use Rattle.mb_geom.specs.declared.desc.DescFault.{DescFault}
-use Rattle.mb_fdt.specs.declared.fdt.FileFault.{FileFault}
-use Rattle.mb_fdt.specs.declared.fdt.FileFault.TheVariants.{Desc}
+use Rattle.mb_fdt_text.specs.declared.fdt.FileFault.{FileFault}
+use Rattle.mb_fdt_text.specs.declared.fdt.FileFault.TheVariants.{Desc}
 use Rattle.mb_fdt.specs.declared.entry.Values.{Values}
-use Rattle.mb_fdt.specs.Entry.{Said, parts_of, unless}
-use Rattle.mb_fdt.specs.EntrySeen.{IsRead, parts_by}
+use Rattle.mb_fdt_text.specs.Entry.{Said, parts_of, unless}
+use Rattle.mb_fdt.specs.EntryView.{IsRead, parts_by}
 
 pub parts_are : (s : Said) (v : Values) → IsRead s v → parts_by (unwrap_or s.location []) v ≡ parts_of s
 parts_are s v read =

@@ -1,10 +1,10 @@
 -- The table of the reasons for which an element is refused.
 use Rattle.std.proofs.Common.{◌≡◌, ℕ, ◌&&◌, Bool, true, false, List, [], ◌∷◌, Option, Some, None, not, is_some, is_none, refl}
 use Rattle.std.specs.Borrow.{Bor}
-use Rattle.mb_fdt.specs.declared.fdt.FileFault.{FileFault}
-use Rattle.mb_fdt.specs.declared.fdt.FileFault.TheVariants.{NoLocation, LongLocation, NoToi, BadNumber, BadMd5, BadInfo}
-use Rattle.mb_fdt.specs.declared.fdt.Attr.TheVariants.{Toi, ContentLength, TransferLength, FecOtiFecEncodingId, FecOtiMaximumSourceBlockLength, FecOtiEncodingSymbolLength}
-use Rattle.mb_fdt.specs.SaidSeen.{value_of}
+use Rattle.mb_fdt_text.specs.declared.fdt.FileFault.{FileFault}
+use Rattle.mb_fdt_text.specs.declared.fdt.FileFault.TheVariants.{NoLocation, LongLocation, NoToi, BadNumber, BadMd5, BadInfo}
+use Rattle.mb_fdt_text.specs.declared.fdt.Attr.TheVariants.{Toi, ContentLength, TransferLength, FecOtiFecEncodingId, FecOtiMaximumSourceBlockLength, FecOtiEncodingSymbolLength}
+use Rattle.mb_fdt.specs.ValuesView.{value_of}
 
 -- the reasons, each with whether its condition holds
 unfoldable pub reasons : (no_location long no_toi toi content transfer id block symbol md5 info : Bool) → List (Bool × FileFault)

@@ -9,8 +9,8 @@ use Rattle.std.specs.Result.{IfOk}
 use Rattle.std.specs.Str.{IsUtf8, is_utf8}
 use Rattle.std.proofs.lemmas.Bool.{cases_lt, cases_Bool}
 use Rattle.std.proofs.lemmas.Str.{IsUtf8-nil, is_utf8-from_IsUtf8, IsUtf8-from_is_utf8}
-use Rattle.mb_fdt.specs.Reader.{outside, innermost}
-use Rattle.mb_fdt.specs.Values.{are_texts}
+use Rattle.mb_fdt_text.specs.Reader.{outside, innermost}
+use Rattle.mb_fdt.specs.TextValues.{are_texts}
 
 pub outside_next : {X : Type 0} (f : X → List ℕ) → (xs : List X) (i : ℕ) → map f (drop (i + 1) xs) ≡ outside (map f (drop i xs))
 outside_next f [] zero = refl

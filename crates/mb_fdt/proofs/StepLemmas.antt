@@ -1,8 +1,8 @@
 -- Steps of the definition of the reader over the bytes of a text.
 use Rattle.std.proofs.Common.{◌≡◌, ℕ, suc, ◌+◌, ◌<◌, ◌≤◌, List, [], ◌∷◌, length, get_or, drop, Ok, Err, ap, sym, ◌∙◌, arith, drop-cons}
 use Rattle.std.proofs.lemmas.List.{drop_all}
-use Rattle.mb_fdt.specs.declared.fdt.FdtFault.{FdtFault}
-use Rattle.mb_fdt.specs.Reader.{Reader, Next, step, steps, finish}
+use Rattle.mb_fdt_text.specs.declared.fdt.FdtFault.{FdtFault}
+use Rattle.mb_fdt_text.specs.Reader.{Reader, Next, step, steps, finish}
 
 -- one byte further
 pub steps_further : (r : Reader) (text : List ℕ) (i : ℕ) → i < length text → steps (Ok r) (drop i text) ≡ steps (step r (get_or text i 0)) (drop (i + 1) text)

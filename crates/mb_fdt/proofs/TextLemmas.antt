@@ -6,17 +6,17 @@ use Rattle.std.specs.List.{slice_range}
 use Rattle.std.proofs.lemmas.Str.{IsUtf8-take, IsUtf8-drop, IsCharBoundary-before_ascii, IsCharBoundary-after_ascii}
 use Rattle.std.specs.Bool.{if◌then◌else◌}
 use Rattle.mb_xml.specs.Name.{is_name_byte}
-use Rattle.mb_xml.specs.Seen.{inside_of}
-use Rattle.mb_xml.specs.declared.inside.Inside.{Inside as ReadInside}
+use Rattle.mb_xml.specs.ValueStateView.{inside_of}
+use Rattle.mb_xml.specs.declared.value_state.Inside.{Inside as ReadInside}
 use Rattle.mb_xml.specs.Reference.{Inside}
 use Rattle.mb_xml.specs.Reference.Inside.{Plain, Named}
 use Rattle.mb_fdt.specs.declared.token.Token.{Token as ReadToken}
 use Rattle.mb_fdt.specs.declared.token.Token.TheVariants.{Value as ReadValue, ElementName as ReadElementName, AttributeName as ReadAttributeName}
 use Rattle.mb_fdt.specs.declared.token.Quoted.{Quoted as ReadQuoted}
 use Rattle.mb_fdt.specs.declared.reader.Reader.{Reader as ReadReader}
-use Rattle.mb_fdt.specs.Reader.{Reader, Quoted, go, next, named, attribute_named, slot_of, names_read, plain, quoted}
-use Rattle.mb_fdt.specs.Reader.Token.{Value, ElementName, AttributeName}
-use Rattle.mb_fdt.specs.ReaderSeen.{IsByteAt, quoted_of, reader_of, reader_at}
+use Rattle.mb_fdt_text.specs.Reader.{Reader, Quoted, go, next, named, attribute_named, slot_of, names_read, plain, quoted}
+use Rattle.mb_fdt_text.specs.Reader.Token.{Value, ElementName, AttributeName}
+use Rattle.mb_fdt.specs.ReaderView.{IsByteAt, quoted_of, reader_of, reader_at}
 
 -- ---- parts
 

@@ -1,13 +1,13 @@
 ghost use Rattle.std.specs.Prelude.{◌≡◌, ◌+◌, ◌≤◌, slice_range, length, IsUtf8, is_some, option_and_then};
-ghost use Rattle.mb_fdt.specs.SlotsSeen.{slots_of};
+ghost use Rattle.mb_fdt.specs.SlotsView.{slots_of};
 ghost use Rattle.mb_xml.specs.Reference.{referred_further};
-ghost use Rattle.mb_xml.specs.Seen.{inside_of};
-ghost use Rattle.mb_fdt.specs.Reader as definition;
-ghost use Rattle.mb_fdt.specs.ReaderSeen.{reader_at, next_of, quoted_of, IsWithin, IsByteAt, HasRoom, IsBegun};
+ghost use Rattle.mb_xml.specs.ValueStateView.{inside_of};
+ghost use Rattle.mb_fdt_text.specs.Reader as definition;
+ghost use Rattle.mb_fdt.specs.ReaderView.{reader_at, next_of, quoted_of, IsWithin, IsByteAt, HasRoom, IsBegun};
 
-use crate::fdt::FdtKind;
 use crate::reader::{Next, Reader, fault, syntax};
 use crate::token::{Quoted, Token};
+use mb_fdt_text::FdtKind;
 use mb_xml::{Inside, further, is_name_byte, is_space};
 
 impl<'a> Reader<'a> {

@@ -1,9 +1,9 @@
-ghost use Rattle.mb_fdt.specs.SlotsSeen.{slots_of};
-ghost use Rattle.mb_fdt.specs.CodingSeen.{IsCoding};
+ghost use Rattle.mb_fdt.specs.SlotsView.{slots_of};
+ghost use Rattle.mb_fdt.specs.CodingView.{IsCoding};
 
 use crate::known::*;
-use crate::said::{bytes_in, is_filled, u8_in, u16_in, u32_in};
 use crate::slots::Slots;
+use crate::values::{bytes_in, is_filled, u8_in, u16_in, u32_in};
 
 /// What the root's tag says of the coding of all files, each where it is given and can be read. It is read once,
 /// so that a long value costs the same however many files there are.

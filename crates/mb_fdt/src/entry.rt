@@ -1,19 +1,19 @@
 ghost use Rattle.std.specs.Prelude.{◌≡◌, ◌&&◌, ◌||◌, IfOk, IfSome, IsOk, IsSome, IsUtf8, is_some, is_none};
 ghost use Rattle.mb_geom.specs.Description.{described};
-ghost use Rattle.mb_fdt.specs.Entry.{entry_of, said_by, refusals, first_refusal, unless, parts_of, raptor_of};
-ghost use Rattle.mb_fdt.specs.SaidSeen.{said_of, value_of};
-ghost use Rattle.mb_fdt.specs.EntrySeen as seen;
-ghost use Rattle.mb_fdt.specs.Reader.{root_value, file_value};
-ghost use Rattle.mb_fdt.specs.SlotsSeen.{slots_of};
-ghost use Rattle.mb_fdt.specs.EntrySeen.{IsRead, scheme_by, parts_by, fault_of};
+ghost use Rattle.mb_fdt_text.specs.Entry.{entry_of, said_by, refusals, first_refusal, unless, parts_of, raptor_of};
+ghost use Rattle.mb_fdt.specs.ValuesView.{said_of, value_of};
+ghost use Rattle.mb_fdt.specs.EntryView as entry_view;
+ghost use Rattle.mb_fdt_text.specs.Reader.{root_value, file_value};
+ghost use Rattle.mb_fdt.specs.SlotsView.{slots_of};
+ghost use Rattle.mb_fdt.specs.EntryView.{IsRead, scheme_by, parts_by, fault_of};
 
-use crate::fdt::FileFault::{BadInfo, BadMd5, BadNumber, LongLocation, NoLocation, NoToi};
-use crate::fdt::{Attr, FileEntry, FileFault};
 use crate::known::{ENCODING_ID, INFO, MAX_BLOCK, SYMBOL};
 use crate::root::RootSays;
-use crate::said::*;
 use crate::slots::Slots;
+use crate::values::*;
 use mb_base::{Bytes, Memory, be16};
+use mb_fdt_text::FileFault::{BadInfo, BadMd5, BadNumber, LongLocation, NoLocation, NoToi};
+use mb_fdt_text::{Attr, FileEntry, FileFault};
 use mb_geom::{Desc, DescParts, Scheme};
 use std::alloc::Global;
 
@@ -89,14 +89,14 @@ fn is_bad_where<T>(used: bool, value: Option<&[u8]>, read: &Option<T>) -> bool
 
 /// Whether the FEC Encoding ID is this number.
 fn is_id(values: &Values, id: u8) -> bool
-    ensures { result ≡ seen.is_id id values.now.encoding_id }
+    ensures { result ≡ entry_view.is_id id values.now.encoding_id }
 {
     values.encoding_id == Some(id)
 }
 
 /// Whether the FEC Encoding ID is that of a scheme that is read.
 fn has_scheme(values: &Values) -> bool
-    ensures { result ≡ (seen.is_id 0 values.now.encoding_id || seen.is_id 1 values.now.encoding_id) }
+    ensures { result ≡ (entry_view.is_id 0 values.now.encoding_id || entry_view.is_id 1 values.now.encoding_id) }
 {
     is_id(values, NO_CODE) || is_id(values, RAPTOR)
 }
@@ -216,7 +216,7 @@ fn description(
 
 /// The entry of a File element with these values under a root that says this (RFC 3926 sections 3.4.2 and 5.1.1, TS
 /// 26.346 section 7.2.10). Where there is no description, no memory is taken.
-#[tactic(auto, unfolding(crate::specs::Entry::entry_of))]
+#[tactic(auto, unfolding(mb_fdt_text::specs::Entry::entry_of))]
 pub(crate) fn entry(
     alloc: Global,
     root: &RootSays<'_>,

@@ -1,7 +1,7 @@
 ghost use Rattle.std.specs.Prelude.{◌≡◌, position, bytes_eq, codes};
 ghost use Rattle.mb_xml.specs.Name.{local_part as local_part_of};
-ghost use Rattle.mb_fdt.specs.Known as known;
-ghost use Rattle.mb_fdt.specs.Reader.{slot_of};
+ghost use Rattle.mb_fdt_text.specs.Known as known;
+ghost use Rattle.mb_fdt_text.specs.Reader.{slot_of};
 
 use mb_xml::local_part;
 

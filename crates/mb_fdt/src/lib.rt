@@ -4,27 +4,25 @@
 mod attributes;
 mod coding;
 mod entry;
-mod fdt;
 mod known;
-mod laws;
 mod path;
 mod prolog;
 mod read;
 mod reader;
 mod root;
-mod run;
-mod said;
 mod slots;
 mod step;
+mod stretch;
 mod tag;
 mod tags;
 mod token;
-mod write;
+mod values;
 
-pub use fdt::{Attr, Fdt, FdtFault, FdtKind, FileEntries, FileEntry, FileFault};
-pub use laws::texts_are_read;
+pub use mb_fdt_text::{
+    Attr, Fdt, FdtFault, FdtKind, FileEntries, FileEntry, FileFault, is_described, texts_are_read,
+    write_fdt,
+};
 pub use read::read_fdt;
-pub use write::write_fdt;
 
 #[cfg(test)]
 mod read_tests;

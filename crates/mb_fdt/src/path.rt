@@ -1,5 +1,5 @@
 ghost use Rattle.std.specs.Prelude.{◌≡◌, ℕ, ◌<◌, ◌≤◌, ◌∷◌, length, []};
-ghost use Rattle.mb_fdt.specs.Reader as reader;
+ghost use Rattle.mb_fdt_text.specs.Reader as reader;
 
 /// The most elements that are open at one place.
 const DEEPEST: usize = 16;
@@ -14,7 +14,7 @@ pub(crate) struct Path<'a> {
 }
 
 impl<'a> Path<'a> {
-    ghost use Rattle.mb_fdt.specs.PathSeen.{path_of};
+    ghost use Rattle.mb_fdt.specs.PathView.{path_of};
 
     /// No element.
     pub(crate) fn outermost() -> Self

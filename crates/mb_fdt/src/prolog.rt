@@ -1,10 +1,10 @@
 ghost use Rattle.std.specs.Prelude.{◌≡◌, ◌+◌, ◌≤◌, length};
-ghost use Rattle.mb_fdt.specs.Reader as definition;
-ghost use Rattle.mb_fdt.specs.ReaderSeen.{reader_at, next_of, IsWithin, IsByteAt};
+ghost use Rattle.mb_fdt_text.specs.Reader as definition;
+ghost use Rattle.mb_fdt.specs.ReaderView.{reader_at, next_of, IsWithin, IsByteAt};
 
-use crate::fdt::FdtKind;
 use crate::reader::{Next, Reader, fault, syntax};
 use crate::token::Token;
+use mb_fdt_text::FdtKind;
 use mb_xml::{is_name_start, is_space};
 
 /// The most elements that are open at one place.

@@ -1,17 +1,19 @@
-ghost use Rattle.std.specs.Prelude.{◌≡◌, IfOk, IsUtf8, Ok, Bool, option_map};
+ghost use Rattle.std.specs.Prelude.{◌≡◌, ◌↔◌, IfOk, IsUtf8, Ok, Err, Bool, option_map};
 ghost use Rattle.std.specs.Str.{is_utf8};
 ghost use Rattle.mb_xml.specs.Value.{is_complete};
-ghost use Rattle.mb_fdt.specs.Reader as definition;
-ghost use Rattle.mb_fdt.specs.Reader.{steps, begin, fdt_of};
-ghost use Rattle.mb_fdt.specs.ReaderSeen.{reader_of, reader_at, root_of, IsPlaced};
-ghost use Rattle.mb_fdt.specs.PathSeen.{path_of};
-ghost use Rattle.mb_fdt.specs.SaidSeen.{value_of};
+ghost use Rattle.mb_fdt_text.specs.Says.{IsFdt};
+ghost use Rattle.mb_fdt_text.specs.Faults.{IsFault};
+ghost use Rattle.mb_fdt_text.specs.Reader as definition;
+ghost use Rattle.mb_fdt_text.specs.Reader.{steps, begin, fdt_of};
+ghost use Rattle.mb_fdt.specs.ReaderView.{reader_of, reader_at, root_of, IsPlaced};
+ghost use Rattle.mb_fdt.specs.PathView.{path_of};
+ghost use Rattle.mb_fdt.specs.ValuesView.{value_of};
 
-use crate::fdt::{Fdt, FdtFault, FdtKind, FileEntries};
 use crate::known::COMPLETE;
 use crate::reader::Reader;
 use crate::token::Token;
 use mb_base::Memory;
+use mb_fdt_text::{Fdt, FdtFault, FdtKind, FileEntries};
 use mb_xml::{says, utf8_place};
 use std::alloc::Global;
 
@@ -21,8 +23,19 @@ use std::alloc::Global;
 /// # Errors
 ///
 /// [`Memory`] where there is no memory for the files or their locations.
-#[tactic(auto, unfolding(crate::specs::Reader::fdt_of))]
 pub fn read_fdt(alloc: Global, text: &[u8]) -> Result<Result<Fdt, FdtFault>, Memory>
+    // An instance is answered exactly where the bytes are its text, and a fault exactly where it is theirs.
+    ensures instance { (fdt : Fdt) → IfOk result (λ answer. (answer ≡ Ok fdt) ↔ IsFdt text.now fdt) }
+    ensures fault { (fault : FdtFault) → IfOk result (λ answer. (answer ≡ Err fault) ↔ IsFault text.now fault) }
+    ensures exact { IfOk result (λ answer. answer ≡ fdt_of text.now) }
+{
+    let answer = read_bytes(alloc, text)?;
+    Ok(answer)
+}
+
+/// The same, by the definition of the reader.
+#[tactic(auto, unfolding(mb_fdt_text::specs::Reader::fdt_of))]
+fn read_bytes(alloc: Global, text: &[u8]) -> Result<Result<Fdt, FdtFault>, Memory>
     ensures { IfOk result (λ answer. answer ≡ fdt_of text.now) }
 {
     match utf8_place(text) {
@@ -48,13 +61,13 @@ fn read_utf8(alloc: Global, text: &[u8]) -> Result<Result<Fdt, FdtFault>, Memory
             Err(fault) => return Ok(Err(fault)),
         }
         // Most bytes of a long text change nothing but the place, so no step is taken for them.
-        at = reader.behind_run(at + 1, token);
+        at = reader.behind_stretch(at + 1, token);
     }
     Ok(finish(text.len(), token, reader))
 }
 
 /// What stands there where the text ends.
-#[tactic(auto, unfolding(crate::specs::Reader::finish))]
+#[tactic(auto, unfolding(mb_fdt_text::specs::Reader::finish))]
 fn finish(at: usize, token: Token<'_>, reader: Reader<'_>) -> Result<Fdt, FdtFault>
     requires { IsPlaced at token reader }
     ensures { result ≡ definition.finish (Ok (reader_of at token.entry reader.entry)) }

@@ -1,4 +1,4 @@
-use super::{Attr, Fdt, FileFault, read_fdt, write_fdt};
+use super::{Attr, Fdt, FileFault, is_described, read_fdt, write_fdt};
 use mb_base::Memory;
 use mb_geom::{DescFault, Scheme};
 use std::alloc::Global;
@@ -302,7 +302,9 @@ Some(1), Some(Desc(TooManyBlocks)) | $ | Content-Length='65537' FEC-OTI-Maximum-
 Some(1), Some(Desc(BlockSize(0, 65537))) | $ | Content-Length='65537' FEC-OTI-Maximum-Source-Block-Length='65537' FEC-OTI-Encoding-Symbol-Length='1'
 Some(1), None | $ | Content-Length='16' FEC-OTI-FEC-Encoding-ID='1' FEC-OTI-Encoding-Symbol-Length='4' FEC-OTI-Scheme-Specific-Info='AAEBBA=='
 Some(1), Some(Desc(BlockSize(0, 3))) | $ | Content-Length='12' FEC-OTI-FEC-Encoding-ID='1' FEC-OTI-Encoding-Symbol-Length='4' FEC-OTI-Scheme-Specific-Info='AAEBBA=='
-Some(1), Some(Desc(Parameters)) | $ | Content-Length='16' FEC-OTI-FEC-Encoding-ID='1' FEC-OTI-Encoding-Symbol-Length='4' FEC-OTI-Scheme-Specific-Info='AAABBA=='"#;
+Some(1), Some(Desc(Parameters)) | $ | Content-Length='16' FEC-OTI-FEC-Encoding-ID='1' FEC-OTI-Encoding-Symbol-Length='4' FEC-OTI-Scheme-Specific-Info='AAABBA=='
+Some(1), None | $ | Content-Length='32' FEC-OTI-FEC-Encoding-ID='1' FEC-OTI-Encoding-Symbol-Length='8' FEC-OTI-Scheme-Specific-Info='AAECBA=='
+Some(1), Some(Desc(Parameters)) | $ | Content-Length='32' FEC-OTI-FEC-Encoding-ID='1' FEC-OTI-Encoding-Symbol-Length='4' FEC-OTI-Scheme-Specific-Info='AAECBA=='"#;
 
 /// The same with the attributes of the File element behind those and a length.
 const SIZED_ENTRIES: &str = r#"Some(1), None | $ |
@@ -619,11 +621,11 @@ fn every_attribute_of_the_schema_is_read_or_skipped(rt: HostRuntime) -> Result<(
     Ok(())
 }
 
-/// What is written for what is read of the text, where it is one.
+/// What is written for what is read of the text, where it is one whose entries are all described.
 fn rewritten(alloc: Global, text: &str) -> Result<Option<Vec<u8>>, Memory> {
     match read_fdt(alloc, text.as_bytes())? {
-        Ok(fdt) => Ok(Some(write_fdt(alloc, &fdt)?)),
-        Err(_) => Ok(None),
+        Ok(fdt) if is_described(&fdt) => Ok(Some(write_fdt(alloc, &fdt)?)),
+        _ => Ok(None),
     }
 }
 
@@ -650,5 +652,7 @@ fn what_is_read_is_written(rt: HostRuntime) -> Result<(), Fail> {
         let written = rewritten(rt.alloc(), text)?.ok_or("it is a text")?;
         assert!(rt; written.as_slice() == text.as_bytes(), "{text}");
     }
+    let without = TEXT1.replace(rt.alloc(), " TOI=\"5\"", "")?;
+    assert!(rt; rewritten(rt.alloc(), without.as_str())?.is_none());
     Ok(())
 }

@@ -1,11 +1,11 @@
 ghost use Rattle.std.specs.Prelude.{◌≡◌};
 
-use crate::fdt::{FdtFault, FdtKind, FileEntry};
 use crate::path::Path;
 use crate::root::RootSays;
 use crate::slots::Slots;
 use crate::tag::Tag;
 use crate::token::Token;
+use mb_fdt_text::{FdtFault, FdtKind, FileEntry};
 use std::alloc::Global;
 
 /// What is begun behind one byte more, or the fault that this byte shows.
@@ -41,8 +41,8 @@ pub(crate) fn fault<'a>(kind: FdtKind, place: usize) -> Next<'a>
 }
 
 impl<'a> Reader<'a> {
-    ghost use Rattle.mb_fdt.specs.Reader as definition;
-    ghost use Rattle.mb_fdt.specs.ReaderSeen.{reader_at, next_of, IsPlaced, IsWithin};
+    ghost use Rattle.mb_fdt_text.specs.Reader as definition;
+    ghost use Rattle.mb_fdt.specs.ReaderView.{reader_at, next_of, IsPlaced, IsWithin};
     ghost use Rattle.std.specs.Prelude.{◌+◌, IfOk};
 
     /// Before the first byte of the text.

@@ -1,5 +1,5 @@
-ghost use Rattle.mb_fdt.specs.SlotsSeen.{slots_of};
-ghost use Rattle.mb_fdt.specs.CodingSeen.{IsCoding};
+ghost use Rattle.mb_fdt.specs.SlotsView.{slots_of};
+ghost use Rattle.mb_fdt.specs.CodingView.{IsCoding};
 
 use crate::coding::Coding;
 use crate::slots::Slots;

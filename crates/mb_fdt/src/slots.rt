@@ -1,5 +1,5 @@
 ghost use Rattle.std.specs.Prelude.{◌≡◌, ℕ, ◌≤◌, option_map, length, map, true};
-ghost use Rattle.mb_fdt.specs.Values.{are_texts};
+ghost use Rattle.mb_fdt.specs.TextValues.{are_texts};
 
 /// The most attributes that are read in one tag.
 pub(crate) const SLOTS: usize = 11;
@@ -16,8 +16,8 @@ pub(crate) struct Slots<'a> {
 
 impl<'a> Slots<'a> {
     ghost use Rattle.std.specs.Prelude.{Some, None, slice_set, replicate, IfSome, IsUtf8};
-    ghost use Rattle.mb_fdt.specs.Reader.{slot};
-    ghost use Rattle.mb_fdt.specs.SlotsSeen.{slots_of};
+    ghost use Rattle.mb_fdt_text.specs.Reader.{slot};
+    ghost use Rattle.mb_fdt.specs.SlotsView.{slots_of};
 
     /// So many slots without values.
     pub(crate) fn empty(count: usize) -> Self

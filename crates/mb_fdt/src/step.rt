@@ -1,6 +1,6 @@
 ghost use Rattle.std.specs.Prelude.{◌≡◌, ◌+◌, IfOk, IsUtf8};
-ghost use Rattle.mb_fdt.specs.Reader as definition;
-ghost use Rattle.mb_fdt.specs.ReaderSeen.{reader_of, next_of, IsPlaced, IsWithin, IsByteAt};
+ghost use Rattle.mb_fdt_text.specs.Reader as definition;
+ghost use Rattle.mb_fdt.specs.ReaderView.{reader_of, next_of, IsPlaced, IsWithin, IsByteAt};
 
 use crate::reader::{Next, Reader, syntax};
 use crate::token::Token;
@@ -10,7 +10,7 @@ use std::alloc::Global;
 
 impl<'a> Reader<'a> {
     /// One byte more, behind what was begun before it.
-    #[tactic(auto, unfolding(crate::specs::Reader::step))]
+    #[tactic(auto, unfolding(mb_fdt_text::specs::Reader::step))]
     pub(crate) fn step(
         &mut self,
         alloc: Global,

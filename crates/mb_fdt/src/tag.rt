@@ -1,5 +1,5 @@
 ghost use Rattle.std.specs.Prelude.{◌≡◌, [], length};
-ghost use Rattle.mb_fdt.specs.Known as known;
+ghost use Rattle.mb_fdt_text.specs.Known as known;
 
 use crate::known;
 use crate::known::{file_place, root_place};
@@ -14,8 +14,8 @@ pub(crate) struct Tag<'a> {
 
 impl<'a> Tag<'a> {
     ghost use Rattle.std.specs.Prelude.{◌≤◌};
-    ghost use Rattle.mb_fdt.specs.Reader.{slot_of};
-    ghost use Rattle.mb_fdt.specs.Known.{read_names};
+    ghost use Rattle.mb_fdt_text.specs.Reader.{slot_of};
+    ghost use Rattle.mb_fdt_text.specs.Known.{read_names};
 
     /// The tag of this name.
     pub(crate) fn new(name: &'a [u8]) -> Self

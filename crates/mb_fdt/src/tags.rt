@@ -1,20 +1,20 @@
 ghost use Rattle.std.specs.Prelude.{◌≡◌, ◌+◌, ◌≤◌, ℕ, List, [], ◌∷◌, slice_range, length, option_map, IfOk, Ok};
-ghost use Rattle.mb_fdt.specs.Reader as definition;
-ghost use Rattle.mb_fdt.specs.SlotsSeen.{slots_of};
-ghost use Rattle.mb_fdt.specs.PathSeen.{path_of};
-ghost use Rattle.mb_fdt.specs.ReaderSeen.{reader_at, reader_of, root_of, next_of, IsPlaced, IsWithin, IsByteAt, HasRoom};
+ghost use Rattle.mb_fdt_text.specs.Reader as definition;
+ghost use Rattle.mb_fdt.specs.SlotsView.{slots_of};
+ghost use Rattle.mb_fdt.specs.PathView.{path_of};
+ghost use Rattle.mb_fdt.specs.ReaderView.{reader_at, reader_of, root_of, next_of, IsPlaced, IsWithin, IsByteAt, HasRoom};
 
 use crate::coding::coding_in;
 use crate::entry::entry;
-use crate::fdt::FdtKind;
 use crate::known::{EXPIRES, is_instance};
 use crate::reader::{Next, Reader, fault, syntax};
 use crate::root::RootSays;
-use crate::said::number_in;
 use crate::slots::Slots;
 use crate::tag::Tag;
 use crate::token::Token;
+use crate::values::number_in;
 use mb_base::Memory;
+use mb_fdt_text::FdtKind;
 use mb_xml::{is_name_byte, is_name_start, is_space};
 use std::alloc::Global;
 

@@ -1,3 +1,4 @@
 pub mod PartitionLemmas
 pub mod BlockLemmas
 pub mod RefusalLemmas
+pub mod GoodLemmas

@@ -1,6 +1,7 @@
 -- What makes a file's description, and what follows from one: symbols, blocks, sizes and bounds.
-use Rattle.std.specs.Prelude.{◌≡◌, bytes_eq, false, ℕ, ◌+◌, ◌-◌, ◌*◌, ◌/◌, ◌%◌, ◌^◌, ◌<◌, ◌≤◌, ◌==◌, ◌||◌, Bool, true, not, nat_lt, nat_le, if◌then◌else◌, List, [], length, slice_index, sum_by, position, Option, Some, None, is_none, is_some, unwrap_or, Result, Ok, Err, ◌&&◌, ◌∷◌, IsUtf8}
+use Rattle.std.specs.Prelude.{◌≡◌, ◌↔◌, bytes_eq, false, ℕ, ◌+◌, ◌-◌, ◌*◌, ◌/◌, ◌%◌, ◌^◌, ◌<◌, ◌≤◌, ◌==◌, ◌||◌, Bool, true, not, nat_lt, nat_le, if◌then◌else◌, List, [], length, slice_index, sum_by, position, Option, Some, None, is_none, is_some, unwrap_or, IfSome, Result, Ok, Err, ◌&&◌, ◌∷◌, IsUtf8}
 use Rattle.std.specs.Option.{option_or}
+use Rattle.mb_base.specs.Number.{AreBytes}
 use Rattle.mb_geom.specs.Partition.{ceiling, partition_of, sizes_of}
 use Rattle.mb_geom.specs.declared.parts.Parts.{Parts}
 use Rattle.mb_geom.specs.declared.desc.Scheme.{Scheme}
@@ -72,12 +73,28 @@ abbrev pub are_parameters : ℕ → Scheme → Bool
 are_parameters t (NoCode b) = nat_lt 0 b
 are_parameters t (Raptor z n al) = nat_lt 0 z && nat_lt 0 n && nat_lt 0 al && (t % al == 0) && nat_le n (t / al)
 
--- a description that no condition refuses, of a location that is a text
+-- whether the scheme is Compact No-Code
+abbrev pub is_no_code : Scheme → Bool
+is_no_code (NoCode b) = true
+is_no_code (Raptor z n al) = false
+
+-- the parameters fit their fields: B (RFC 3695 section 4), and Z, N and Al (RFC 5053 section 3.2.3)
+abbrev pub SchemeFits : Scheme → Type 0
+SchemeFits (NoCode b) = b < 2 ^ 32
+SchemeFits (Raptor z n al) = (z < 2 ^ 16) × (n < 2 ^ 8) × (al < 2 ^ 8)
+
+-- the 16 bytes of an MD5 (RFC 1321)
+abbrev pub IsDigest : List ℕ → Type 0
+IsDigest md5 = (length md5 ≡ 16) × AreBytes md5
+
+-- a description that no condition refuses, of a location that is a text, with a scheme and a digest that fit their fields
 pub record IsGood (d : Description) : Type 0 where
   pub location : IsUtf8 d.location
   pub length : d.length ≤ 2 ^ 28
   pub symbol : 0 < d.symbol
   pub symbol_fits : d.symbol < 2 ^ 16
+  pub scheme_fits : SchemeFits d.scheme
+  pub digest : IfSome d.md5 IsDigest
   pub parameters : are_parameters d.symbol d.scheme ≡ true
   pub blocks : block_count d ≤ 65536
   pub sizes : bad_block d ≡ None
@@ -123,6 +140,23 @@ ok_unless (Some fault) d = Err fault
 -- the description that the parts make, or their first fault
 abbrev pub described : DescParts → Result Description DescFault
 described p = ok_unless (first_fault (refusals p)) (description_of p)
+
+-- parts as they are given: a location that is a text, and numbers and bytes that fit their fields
+pub record AreParts (p : DescParts) : Type 0 where
+  pub location : IsUtf8 p.location
+  pub symbol : IfSome p.symbol (λ t. t < 2 ^ 16)
+  pub scheme : IfSome p.scheme SchemeFits
+  pub digest : IfSome p.md5 IsDigest
+
+-- some parts make this description
+pub record IsMade (d : Description) : Type 0 where
+  pub of : DescParts
+  pub are : AreParts of
+  pub made : described of ≡ Ok d
+
+-- a description is good exactly where some parts make it
+abbrev pub GoodAreMade : Type 0
+GoodAreMade = (d : Description) → IsGood d ↔ IsMade d
 
 -- Whether two descriptions are the same in every part.
 

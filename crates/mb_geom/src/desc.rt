@@ -1,4 +1,5 @@
 ghost use Rattle.std.specs.Prelude.{◌≡◌, ℕ, ◌+◌, ◌*◌, ◌^◌, ◌<◌, ◌≤◌, []};
+ghost use Rattle.mb_base.specs.Number.{AreBytes};
 
 use crate::parts::{Parts, partition};
 use mb_base::Bytes;
@@ -106,11 +107,22 @@ impl Model for Desc {
 impl Scheme {
     ghost use Rattle.std.specs.Prelude.{true, false, not, position, length, IfSome};
     ghost use Rattle.mb_geom.specs.Partition.{ceiling, sizes_of};
-    ghost use Rattle.mb_geom.specs.Description.{are_parameters, is_block_size, blocking, equations_of, equations_once};
+    ghost use Rattle.mb_geom.specs.Description.{is_no_code, SchemeFits, are_parameters, is_block_size, blocking, equations_of, equations_once};
+
+    /// Whether it is Compact No-Code (RFC 3695), which has no repair symbols.
+    pub fn is_no_code(self) -> bool
+        ensures { result ≡ is_no_code self }
+    {
+        match self {
+            Scheme::NoCode { .. } => true,
+            Scheme::Raptor { .. } => false,
+        }
+    }
 
     // Whether symbols of so many bytes can have these parameters.
     fn fits(self, symbol: u16) -> bool
-        ensures { result ≡ are_parameters symbol self }
+        ensures exact { result ≡ are_parameters symbol self }
+        ensures fields { SchemeFits self }
     {
         match self {
             Scheme::NoCode { max_block } => max_block > 0,
@@ -190,9 +202,14 @@ impl Scheme {
     }
 }
 
+// What the type of the bytes says of each of them, as a clause.
+fn are_bytes(bytes: &[u8])
+    ensures { AreBytes bytes.now }
+{}
+
 impl DescParts {
-    ghost use Rattle.std.specs.Prelude.{Some, None, true, take, drop, MatchResult, IfOk};
-    ghost use Rattle.mb_geom.specs.Description.{description_of, refusals, first_fault, are_parameters};
+    ghost use Rattle.std.specs.Prelude.{Some, None, true, take, drop, MatchResult, IfOk, IfSome};
+    ghost use Rattle.mb_geom.specs.Description.{description_of, refusals, first_fault, are_parameters, SchemeFits, IsDigest};
 
     // The length of the file, which is given once, or twice the same.
     fn length(&self) -> Result<u64, DescFault>
@@ -215,12 +232,23 @@ impl DescParts {
         Ok(length)
     }
 
+    // The MD5, if it is given.
+    fn digest(&self) -> Option<[u8; 16]>
+        ensures exact { result ≡ self.now.md5 }
+        ensures bytes { IfSome result IsDigest }
+    {
+        let md5 = self.md5?;
+        are_bytes(&md5);
+        Some(md5)
+    }
+
     // The length of a symbol and the scheme, whose parameters fit it.
     fn coding(&self) -> Result<(u16, Scheme), DescFault>
         ensures symbol { IfOk result (λ c. c.0 ≡ (description_of self.now).symbol) }
         ensures scheme { IfOk result (λ c. c.1 ≡ (description_of self.now).scheme) }
         ensures positive { IfOk result (λ c. 0 < c.0) }
         ensures parameters { IfOk result (λ c. are_parameters c.0 c.1 ≡ true) }
+        ensures fields { IfOk result (λ c. SchemeFits c.1) }
         ensures refused { MatchResult result (λ c. first_fault (take 3 (drop 4 (refusals self.now))) ≡ None) (λ e. first_fault (take 3 (drop 4 (refusals self.now))) ≡ Some e) }
     {
         let (Some(symbol), Some(scheme)) = (self.symbol, self.scheme) else {
@@ -261,11 +289,11 @@ impl Desc {
             return Err(DescFault::BlockSize(number as u16, size as u32));
         }
         Ok(Desc {
+            md5: parts.digest(),
             location: parts.location,
             length,
             symbol,
             scheme,
-            md5: parts.md5,
         })
     }
 
@@ -498,6 +526,10 @@ mod tests {
                 assert_eq!(rt; desc.k_of(sbn as u16), *size, "block {sbn}");
             }
             assert_eq!(rt; (desc.plain(), desc.equations()), (plain, equations));
+            assert_eq!(rt;
+                desc.scheme().is_no_code(),
+                sizes.len() != 2 && length != 1_600
+            );
             assert!(rt; desc.length() > 0);
             assert_eq!(rt; desc.tail(), tail);
         }

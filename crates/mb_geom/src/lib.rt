@@ -3,7 +3,9 @@
 #![tactic(auto)]
 
 mod desc;
+mod laws;
 mod parts;
 
 pub use desc::{Desc, DescFault, DescParts, Scheme};
+pub use laws::good_are_made;
 pub use parts::{Parts, partition};

@@ -4,7 +4,7 @@ use Rattle.std.proofs.lemmas.List.{drop_more, drop_all, get_or-take, take_all}
 use Rattle.std.proofs.lemmas.Bool.{ne_eqb}
 use Rattle.std.specs.Option.{IfSome, IfNone}
 use Rattle.mb_xml.specs.declared.characters.CharacterBytes.{CharacterBytes}
-use Rattle.mb_xml.specs.CharactersSeen.{left, Gives}
+use Rattle.mb_xml.specs.CharactersView.{left, Gives}
 use Rattle.mb_xml.specs.Reference.{replaced, replaced_in}
 
 -- the bytes of a character that are still to be given

@@ -9,7 +9,7 @@ use Rattle.mb_xml.specs.declared.numbers.NumberRead.{NumberRead}
 use Rattle.mb_xml.specs.declared.numbers.NumberRead.TheVariants.{Nothing, Digits, Whole}
 use Rattle.mb_xml.specs.Name.{is_space}
 use Rattle.mb_xml.specs.Value.{some_if, skip_space, number_of}
-use Rattle.mb_xml.specs.NumberSeen.{number_with, behind_space, behind_digits_at, digits_at, IsBelow}
+use Rattle.mb_xml.specs.NumberView.{number_with, behind_space, behind_digits_at, digits_at, IsBelow}
 use Rattle.mb_xml.proofs.NumberLemmas.{le_value_after}
 
 pub number_nothing : (limit : ℕ) → number_of limit [] ≡ None

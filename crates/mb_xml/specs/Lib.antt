@@ -1,6 +1,6 @@
 pub mod Name
 pub mod Reference
 pub mod Value
-pub mod Seen
-pub mod CharactersSeen
-pub mod NumberSeen
+pub mod ValueStateView
+pub mod CharactersView
+pub mod NumberView

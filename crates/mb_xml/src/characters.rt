@@ -32,7 +32,7 @@ fn encoded(character: char) -> ([u8; 4], usize)
 }
 
 impl<'a> CharacterBytes<'a> {
-    ghost use Rattle.mb_xml.specs.CharactersSeen.{left, Gives};
+    ghost use Rattle.mb_xml.specs.CharactersView.{left, Gives};
 
     /// All bytes of the value's characters.
     pub(crate) fn new(value: &'a [u8]) -> Self

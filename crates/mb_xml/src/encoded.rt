@@ -10,7 +10,7 @@ const MOST_CHARACTERS: usize = 24;
 
 /// The N bytes of which the value is the base64 (RFC 4648 section 4): with its padding, with no bit set behind
 /// the last byte, and with nothing around it.
-pub fn base64_bytes<const N: usize>(value: &[u8]) -> Option<[u8; N]>
+pub(crate) fn base64_bytes<const N: usize>(value: &[u8]) -> Option<[u8; N]>
     ensures { result ≡ bytes_of N value.now }
 {
     let mut bytes = [0; N];

@@ -4,19 +4,19 @@
 
 mod characters;
 mod encoded;
-mod inside;
 mod names;
 mod numbers;
 mod references;
 mod text;
+mod value_state;
 
 pub use characters::{is_filled, says};
-pub use encoded::{base64_bytes, base64_in};
-pub use inside::{Inside, Radix, further};
+pub use encoded::base64_in;
 pub use names::{is_name_byte, is_name_start, is_space, local_part};
 pub use numbers::number_in;
 pub use references::{referred, replaced, replaced_length};
 pub use text::utf8_place;
+pub use value_state::{Inside, Radix, further};
 
 #[cfg(test)]
 mod xml_tests;

@@ -4,7 +4,7 @@ ghost use Rattle.std.specs.Char.{is_digit};
 ghost use Rattle.std.specs.Str.Parse.{digits_value};
 ghost use Rattle.mb_xml.specs.Value.{number_of, some_if};
 ghost use Rattle.mb_xml.specs.Reference as reference;
-ghost use Rattle.mb_xml.specs.NumberSeen.{number_with, behind_space, IsBelow};
+ghost use Rattle.mb_xml.specs.NumberView.{number_with, behind_space, IsBelow};
 
 use crate::characters::CharacterBytes;
 use crate::names::is_space;

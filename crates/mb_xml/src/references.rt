@@ -1,10 +1,10 @@
 ghost use Rattle.std.specs.Prelude.{◌≡◌, ◌≢◌, ℕ, ◌<◌, ◌≤◌, length, slice_index, IfOk, IfSome, IfNone, IsTrue, IsUtf8};
 ghost use Rattle.mb_xml.specs.Reference as reference;
-ghost use Rattle.mb_xml.specs.Seen.{radix_of};
+ghost use Rattle.mb_xml.specs.ValueStateView.{radix_of};
 
 use crate::characters::CharacterBytes;
-use crate::inside::{Radix, SCALARS_END, is_character};
 use crate::numbers::digits_number;
+use crate::value_state::{Radix, SCALARS_END, is_character};
 use mb_base::{Bytes, Memory};
 use std::alloc::Global;
 

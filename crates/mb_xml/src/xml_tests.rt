@@ -1,3 +1,4 @@
+use super::encoded::base64_bytes;
 use super::*;
 use mb_base::Memory;
 use std::test::*;

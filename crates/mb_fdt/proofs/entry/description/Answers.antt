@@ -1,8 +1,8 @@
 use Rattle.std.proofs.Common.{◌≡◌, ℕ, List, ◌∙◌, ap}
 use Rattle.mb_geom.specs.Description.{described}
-use Rattle.mb_fdt.specs.Entry.{refusals, first_refusal, parts_of}
-use Rattle.mb_fdt.specs.SaidSeen.{said_of}
-use Rattle.mb_fdt.specs.EntrySeen.{parts_by}
+use Rattle.mb_fdt_text.specs.Entry.{refusals, first_refusal, parts_of}
+use Rattle.mb_fdt.specs.ValuesView.{said_of}
+use Rattle.mb_fdt.specs.EntryView.{parts_by}
 use Rattle.mb_fdt.proofs.DescriptionLemmas.{parts_are, fault_is, description_is, fault_is_none}
 use Rattle.mb_fdt.proofs.entry.description.Goals as goal
 

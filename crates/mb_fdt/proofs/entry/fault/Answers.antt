@@ -3,11 +3,11 @@ use Rattle.std.specs.Result.{result_err}
 use Rattle.mb_geom.specs.Description.{Description, described}
 use Rattle.mb_geom.specs.declared.desc.DescParts.{DescParts}
 use Rattle.mb_geom.specs.declared.desc.DescFault.{DescFault}
-use Rattle.mb_fdt.specs.declared.fdt.FileFault.{FileFault}
-use Rattle.mb_fdt.specs.declared.fdt.FileFault.TheVariants.{Desc}
-use Rattle.mb_fdt.specs.Entry.{unless, parts_of}
-use Rattle.mb_fdt.specs.SaidSeen.{said_of}
-use Rattle.mb_fdt.specs.EntrySeen.{parts_by, fault_of}
+use Rattle.mb_fdt_text.specs.declared.fdt.FileFault.{FileFault}
+use Rattle.mb_fdt_text.specs.declared.fdt.FileFault.TheVariants.{Desc}
+use Rattle.mb_fdt_text.specs.Entry.{unless, parts_of}
+use Rattle.mb_fdt.specs.ValuesView.{said_of}
+use Rattle.mb_fdt.specs.EntryView.{parts_by, fault_of}
 use Rattle.mb_fdt.proofs.DescriptionLemmas.{parts_are, same_fault, err_of_description}
 use Rattle.mb_fdt.proofs.entry.fault.Goals as goal
 use Rattle.mb_fdt.proofs.entry.fault.Goals.{in-Ok, in-Err}

@@ -1,5 +1,5 @@
 use Rattle.std.proofs.Common.{◌≡◌, drop}
-use Rattle.mb_fdt.specs.Entry.{first_refusal}
+use Rattle.mb_fdt_text.specs.Entry.{first_refusal}
 use Rattle.mb_fdt.proofs.entry.first_fault.Given as goal
 
 abbrev pub invariant-loop-holds : goal.invariant-loop-holds

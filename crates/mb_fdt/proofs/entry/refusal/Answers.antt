@@ -1,7 +1,7 @@
 use Rattle.std.proofs.Common.{ℕ, ◌||◌, nat_lt, Option, ap, ◌∙◌}
-use Rattle.mb_fdt.specs.Entry.{first_refusal}
-use Rattle.mb_fdt.specs.SaidSeen.{said_of}
-use Rattle.mb_fdt.specs.EntrySeen.{is_id}
+use Rattle.mb_fdt_text.specs.Entry.{first_refusal}
+use Rattle.mb_fdt.specs.ValuesView.{said_of}
+use Rattle.mb_fdt.specs.EntryView.{is_id}
 use Rattle.mb_fdt.proofs.RefusalLemmas.{reasons, same_reasons, is_none_value, bad_is, bad_where_is}
 use Rattle.mb_fdt.proofs.entry.refusal.Goals as goal
 

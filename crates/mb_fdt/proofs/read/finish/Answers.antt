@@ -1,4 +1,4 @@
-use Rattle.mb_fdt.specs.Reader.{finish}
+use Rattle.mb_fdt_text.specs.Reader.{finish}
 use Rattle.mb_fdt.proofs.read.finish.Goals as goal
 
 pub returns-in-Between : goal.returns-in-Between

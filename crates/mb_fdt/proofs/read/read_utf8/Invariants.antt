@@ -1,6 +1,6 @@
 use Rattle.std.proofs.Common.{◌≡◌, ◌≤◌, ◌-◌, length, drop, Ok}
-use Rattle.mb_fdt.specs.Reader.{steps, begin}
-use Rattle.mb_fdt.specs.ReaderSeen.{reader_of, IsPlaced}
+use Rattle.mb_fdt_text.specs.Reader.{steps, begin}
+use Rattle.mb_fdt.specs.ReaderView.{reader_of, IsPlaced}
 use Rattle.mb_fdt.proofs.read.read_utf8.Given as goal
 
 abbrev pub invariant-loop-at : goal.invariant-loop-at

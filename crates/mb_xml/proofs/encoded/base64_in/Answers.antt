@@ -1,5 +1,5 @@
 use Rattle.std.proofs.Common.{ℕ, List, ap, ◌∙◌}
-use Rattle.mb_xml.specs.CharactersSeen.{left}
+use Rattle.mb_xml.specs.CharactersView.{left}
 use Rattle.mb_xml.specs.Value.{bytes_of}
 use Rattle.mb_xml.proofs.EncodedLemmas.{bytes_long}
 use Rattle.mb_xml.proofs.encoded.base64_in.Goals as goal

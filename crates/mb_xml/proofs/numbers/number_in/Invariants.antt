@@ -1,8 +1,8 @@
 use Rattle.std.proofs.Common.{◌≡◌, length}
-use Rattle.mb_xml.specs.CharactersSeen.{left}
+use Rattle.mb_xml.specs.CharactersView.{left}
 use Rattle.mb_xml.specs.Reference.{replaced}
 use Rattle.mb_xml.specs.Value.{number_of}
-use Rattle.mb_xml.specs.NumberSeen.{number_with, IsBelow}
+use Rattle.mb_xml.specs.NumberView.{number_with, IsBelow}
 use Rattle.mb_xml.proofs.numbers.number_in.Given as goal
 
 abbrev pub invariant-loop-byte : goal.invariant-loop-byte

@@ -1,6 +1,6 @@
 use Rattle.std.proofs.Common.{◌≡◌, drop}
 use Rattle.mb_xml.specs.Value.{number_of}
-use Rattle.mb_xml.specs.NumberSeen.{number_with, IsBelow}
+use Rattle.mb_xml.specs.NumberView.{number_with, IsBelow}
 use Rattle.mb_xml.proofs.numbers.plain_number.Given as goal
 
 abbrev pub invariant-loop-byte : goal.invariant-loop-byte

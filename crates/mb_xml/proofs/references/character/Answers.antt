@@ -1,6 +1,6 @@
 use Rattle.std.proofs.Common.{◌≡◌, ◌<◌, length, Some, None, sym, ◌∙◌, arith}
 use Rattle.std.proofs.lemmas.Bool.{eqb-false}
-use Rattle.mb_xml.specs.Seen.{radix_of}
+use Rattle.mb_xml.specs.ValueStateView.{radix_of}
 use Rattle.mb_xml.proofs.ReferenceLemmas.{digits_below, character_none, character_is, scalar_some}
 use Rattle.mb_xml.proofs.references.character.Goals as goal
 

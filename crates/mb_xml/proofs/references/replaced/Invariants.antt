@@ -1,5 +1,5 @@
 use Rattle.std.proofs.Common.{◌≡◌, ◌+◌, ◌≤◌, ◌++◌, length, vec_len, vec_capacity}
-use Rattle.mb_xml.specs.CharactersSeen.{left}
+use Rattle.mb_xml.specs.CharactersView.{left}
 use Rattle.mb_xml.specs.Reference.{replaced}
 use Rattle.mb_xml.proofs.references.replaced.Given as goal
 

@@ -1,5 +1,5 @@
 use Rattle.std.proofs.Common.{◌≤◌, length, arith}
-use Rattle.mb_xml.specs.CharactersSeen.{left}
+use Rattle.mb_xml.specs.CharactersView.{left}
 use Rattle.mb_xml.proofs.CharacterLemmas.{some_given}
 use Rattle.mb_xml.proofs.ReplacedLemmas.{replaced_short}
 use Rattle.mb_xml.proofs.references.replaced_length.Goals as goal

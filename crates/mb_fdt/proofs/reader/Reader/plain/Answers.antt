@@ -1,7 +1,7 @@
 use Rattle.std.proofs.Common.{◌≡◌, ◌==◌, ◌&&◌, false, is_some, refl, sym, ◌∙◌, inl, inr, arith}
 use Rattle.std.proofs.lemmas.Bool.{cases_Bool}
 use Rattle.mb_xml.specs.Reference.Inside.{Plain}
-use Rattle.mb_fdt.specs.ReaderSeen.{quoted_of, reader_at}
+use Rattle.mb_fdt.specs.ReaderView.{quoted_of, reader_at}
 use Rattle.mb_fdt.proofs.TextLemmas.{longer_is, plain_begins, plain_goes_on}
 use Rattle.mb_fdt.proofs.reader.Reader.plain.Goals as goal
 use Rattle.mb_fdt.proofs.reader.Reader.plain.Goals.{else-byte-eq38-via-then-byte-eq38+else-is_some, else-byte-eq38-via-else-byte-eq38}

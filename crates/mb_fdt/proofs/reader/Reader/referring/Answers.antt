@@ -1,7 +1,7 @@
 use Rattle.std.proofs.Common.{refl, ap, ◌∙◌}
-use Rattle.mb_xml.specs.Seen.{inside_of}
-use Rattle.mb_fdt.specs.Reader.{referring}
-use Rattle.mb_fdt.specs.ReaderSeen.{quoted_of, reader_at}
+use Rattle.mb_xml.specs.ValueStateView.{inside_of}
+use Rattle.mb_fdt_text.specs.Reader.{referring}
+use Rattle.mb_fdt.specs.ReaderView.{quoted_of, reader_at}
 use Rattle.mb_fdt.proofs.TextLemmas.{longer_is}
 use Rattle.mb_fdt.proofs.reader.Reader.referring.Goals as goal
 

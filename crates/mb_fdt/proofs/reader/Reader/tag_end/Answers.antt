@@ -1,9 +1,9 @@
 use Rattle.std.proofs.Common.{◌≡◌, ℕ, List, [], ◌∷◌, Result, ap, sym, ◌∙◌}
-use Rattle.mb_fdt.specs.declared.fdt.FdtFault.{FdtFault}
+use Rattle.mb_fdt_text.specs.declared.fdt.FdtFault.{FdtFault}
 use Rattle.mb_fdt.specs.declared.token.Token.{Token}
-use Rattle.mb_fdt.specs.Reader.{tag_end, innermost}
-use Rattle.mb_fdt.specs.PathSeen.{path_of}
-use Rattle.mb_fdt.specs.ReaderSeen.{next_of, reader_at}
+use Rattle.mb_fdt_text.specs.Reader.{tag_end, innermost}
+use Rattle.mb_fdt.specs.PathView.{path_of}
+use Rattle.mb_fdt.specs.ReaderView.{next_of, reader_at}
 use Rattle.mb_fdt.proofs.SlotLemmas.{one_name, if_ok_map}
 use Rattle.mb_fdt.proofs.reader.Reader.tag_end.Goals as goal
 

@@ -31,6 +31,8 @@ invariant_of-result c = record {
   length = c.in_ok-length.ensures.most;
   symbol = c.in_ok-symbol.ensures.positive;
   symbol_fits = omega arith;
+  scheme_fits = c.in_ok-symbol.ensures.fields;
+  digest = c.digest.ensures.bytes;
   parameters = c.in_ok-symbol.ensures.parameters;
   blocks = rw (block_sizes-is, ← c.blocks-blocks.ensures.exact) (omega arith);
   sizes = rw (block_sizes-is, ← c.blocks-blocks.ensures.exact) (sym c.bad_block.ensures.exact ∙ c.in_default.is);
@@ -44,5 +46,5 @@ returns c =
     let few : block_count (description_of c.args.parts) ≤ 65536 = rw sizes_are (omega arith) in
     let good : bad_block (description_of c.args.parts) ≡ None =
     rw (sizes_are, ← c.in_ok-symbol.ensures.scheme) (sym c.bad_block.ensures.exact ∙ c.in_default.is) in
-    rw (c.in_ok-length.ensures.length, c.in_ok-symbol.ensures.symbol, c.in_ok-symbol.ensures.scheme)
+    rw (c.in_ok-length.ensures.length, c.in_ok-symbol.ensures.symbol, c.in_ok-symbol.ensures.scheme, c.digest.ensures.exact)
     (sym (described-good c.args.parts coded few good))

@@ -1,5 +1,5 @@
 use Rattle.std.proofs.Common.{◌≡◌, ◌≤◌, ◌-◌, List, ℕ, ◌∷◌, length, drop, take, get_or, sym, ◌∙◌, ap, arith}
-use Rattle.mb_xml.specs.CharactersSeen.{left}
+use Rattle.mb_xml.specs.CharactersView.{left}
 use Rattle.mb_xml.specs.Reference.{replaced}
 use Rattle.mb_xml.proofs.CharacterLemmas.{left_spent, gives_character, replaced_empty, first_ampersand, first_other, given_all}
 use Rattle.mb_xml.proofs.characters.CharacterBytes.next.Goals as goal

@@ -1,5 +1,5 @@
 use Rattle.std.proofs.Common.{◌≡◌, ◌≤◌, ◌++◌, length, take}
-use Rattle.mb_xml.specs.CharactersSeen.{left}
+use Rattle.mb_xml.specs.CharactersView.{left}
 use Rattle.mb_xml.proofs.characters.CharacterBytes.put_into.Given as goal
 
 abbrev pub invariant-loop-byte : goal.invariant-loop-byte

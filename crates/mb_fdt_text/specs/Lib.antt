@@ -1,0 +1,9 @@
+pub mod Known
+pub mod Element
+pub mod Text
+pub mod Entry
+pub mod Says
+pub mod Faults
+pub mod Reader
+pub mod WrittenForm
+pub mod Laws
