@@ -2,6 +2,8 @@ ghost use Rattle.std.specs.Prelude.{◌≡◌, None, IfOk, string_bytes};
 
 use mb_outside::{Failed, Memory, Store};
 use std::alloc::Global;
+use std::fs::File;
+use std::io::Write;
 use std::rt::Files;
 use std::{fs, io};
 
@@ -32,18 +34,29 @@ impl<'a, R: Files> FolderStore<'a, R> {
     }
 
     /// Writes the file under a temporary name and renames it, so that no half-written file carries a
-    /// TOI's name. An earlier file of that name is replaced.
+    /// TOI's name. An earlier file of that name is replaced and not written to. What stands at the
+    /// temporary name is removed and not opened, since it may be a link or a pipe.
     fn replace(&self, toi: u128, bytes: &[u8]) -> io::Result<()> {
         let folder = self.folder.as_str();
         let part = format!(in self.alloc; "{folder}/.{toi}.part")?;
         let name = format!(in self.alloc; "{folder}/{toi}")?;
-        let written = fs::write(self.files, part.as_str(), bytes);
+        self.remove(part.as_str())?;
+        let mut file = File::create_new(self.files, part.as_str())?;
+        let written = file.write_all(bytes);
         let done = written.and_then(|_| fs::rename(self.files, part.as_str(), name.as_str()));
         if done.is_err() {
             // The cause is what was met first, so what removing gives is left alone.
             let _ = fs::remove_file(self.files, part.as_str());
         }
         done
+    }
+
+    /// Removes the file with this path, if there is one.
+    fn remove(&self, path: &str) -> io::Result<()> {
+        match fs::remove_file(self.files, path) {
+            Err(error) if error.kind() != io::ErrorKind::NotFound => Err(error),
+            _ => Ok(()),
+        }
     }
 }
 

@@ -5,6 +5,8 @@
 #[cfg(test)]
 mod adapter_tests;
 mod folder_store;
+#[cfg(test)]
+mod folder_tests;
 mod std_sink;
 mod std_source;
 

@@ -1,9 +1,10 @@
-ghost use Rattle.std.specs.Prelude.{◌≡◌, None};
+ghost use Rattle.std.specs.Prelude.{◌≡◌, ◌≤◌, None, length, IfOk};
 
 use mb_outside::{Failed, Source};
-use std::io::Read;
+use std::io::{self, Read};
 
-/// A source over a reader of the system. Of its bytes nothing is told.
+/// A source over a reader of the system. A read that a signal interrupted is made again. Of its bytes nothing is
+/// told.
 #[derive(Drop)]
 pub struct StdSource<R: Read + Drop> {
     inner: R,
@@ -20,6 +21,19 @@ impl<R: Read + Drop> StdSource<R> {
     }
 }
 
+/// Reads as the reader does, once more where a signal interrupted it.
+fn read_through<R: Read>(inner: &mut R, buf: &mut [u8]) -> io::Result<usize>
+    ensures { IfOk result (λ n. n ≤ length buf.new) }
+{
+    for _ in 0..u64::MAX {
+        match inner.read(buf) {
+            Err(error) if error.kind() == io::ErrorKind::Interrupted => {}
+            done => return done,
+        }
+    }
+    Err(io::Error::from(io::ErrorKind::Interrupted))
+}
+
 impl<R: Read + Drop> Source for StdSource<R> {
     type Made = ();
 
@@ -30,7 +44,7 @@ impl<R: Read + Drop> Source for StdSource<R> {
     ghost faults = { λ s. s.faults };
 
     fn read(&mut self, buf: &mut [u8]) -> Result<usize, Failed> {
-        match self.inner.read(buf) {
+        match read_through(&mut self.inner, buf) {
             Ok(count) => Ok(count),
             Err(_) => {
                 self.faults = self.faults.saturating_add(1);
