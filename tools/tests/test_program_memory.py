@@ -9,7 +9,7 @@ from support.traces import MOMENT, files_session, session, symbol
 
 FILES = {5: b"hello", 6: bytes(65_515), 7: b"last"}
 # In bytes. No program starts with the first, and each has enough with the last.
-FIRST, LAST = 64 << 10, 256 << 20
+FIRST, LAST = 64 << 10, 32 << 20
 FAR, NEAR = 64 << 10, 4 << 10
 # The status of the system's loader where it finds no room for the C library.
 UNLOADED = 127
