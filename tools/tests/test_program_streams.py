@@ -1,6 +1,7 @@
 """`mbms_rx` and `mbms_tab` with streams that are closed, full, slow, or left by their reader."""
 
 import os
+import signal
 import unittest
 
 from support.programs import (
@@ -143,6 +144,16 @@ class SlowStreams(ProgramTest):
         for place in range(len(TRACE)):
             self.give(child, TRACE[place : place + 1])
         self.finish(child, DONE, fdt_line(1) + STORED + END)
+        self.has_files({5: b"hello"})
+
+    def test_a_program_that_is_stopped_and_goes_on(self):
+        child = self.started(receive_words())
+        self.give(child, DESCRIPTION)
+        self.assertEqual(self.line(child), fdt_line(1))
+        for number in (signal.SIGSTOP, signal.SIGCONT, signal.SIGWINCH):
+            child.send_signal(number)
+        self.give(child, SYMBOL)
+        self.finish(child, DONE, STORED + END)
         self.has_files({5: b"hello"})
 
     def test_a_reader_that_goes_away_between_two_lines(self):
