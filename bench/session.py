@@ -3,6 +3,7 @@
 import os
 import subprocess
 import time
+from collections import namedtuple
 
 FILES = 250
 SYMBOL = 1380
@@ -10,6 +11,9 @@ MOMENT = 3_899_999_000
 TSI = 1
 ROOT = os.path.dirname(os.path.dirname(os.path.abspath(__file__)))
 TIME = "/usr/bin/time"
+
+# The peak memory is in kB.
+Run = namedtuple("Run", "seconds memory status")
 
 
 def program(name):
@@ -83,7 +87,7 @@ def stored(datagrams):
 
 
 def timed(words, trace_path, folder, out_path):
-    """Runs a program over a trace: the seconds that it takes, its peak memory in kB, and its status."""
+    """Runs a program over a trace."""
     peak = os.path.join(folder, "peak")
     if os.path.exists(TIME):
         words = [TIME, "-q", "-f", "%M", "-o", peak] + words
@@ -99,7 +103,7 @@ def timed(words, trace_path, folder, out_path):
         with open(peak) as text:
             memory = int(text.read().split()[-1])
         os.remove(peak)
-    return seconds, memory, child.returncode
+    return Run(seconds, memory, child.returncode)
 
 
 def copy(path):
