@@ -8,6 +8,7 @@ pub use Rattle.mb_fdt_text.specs.Reader
 pub use Rattle.mb_fdt_text.specs.WrittenForm
 pub use Rattle.mb_fdt_text.specs.Laws
 pub mod TextValues
+pub mod AttributeView
 pub mod SlotsView
 pub mod PathView
 pub mod EntryView

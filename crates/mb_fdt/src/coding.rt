@@ -1,7 +1,7 @@
 ghost use Rattle.mb_fdt.specs.SlotsView.{slots_of};
 ghost use Rattle.mb_fdt.specs.CodingView.{IsCoding};
 
-use crate::known::*;
+use crate::known::RootAttribute;
 use crate::slots::Slots;
 use crate::values::{bytes_in, is_filled, u8_in, u16_in, u32_in};
 
@@ -21,10 +21,10 @@ pub(crate) fn coding_in(slots: &Slots<'_>) -> Coding
     ensures { IsCoding (slots_of slots.now) result }
 {
     Coding {
-        encoded: is_filled(slots.value(ROOT_ENCODING)),
-        encoding_id: u8_in(slots.value(ROOT_ENCODING_ID)),
-        max_block: u32_in(slots.value(ROOT_MAX_BLOCK)),
-        symbol: u16_in(slots.value(ROOT_SYMBOL)),
-        info: bytes_in(slots.value(ROOT_INFO)),
+        encoded: is_filled(slots.of_root(RootAttribute::ContentEncoding)),
+        encoding_id: u8_in(slots.of_root(RootAttribute::EncodingId)),
+        max_block: u32_in(slots.of_root(RootAttribute::MaxBlock)),
+        symbol: u16_in(slots.of_root(RootAttribute::Symbol)),
+        info: bytes_in(slots.of_root(RootAttribute::Info)),
     }
 }

@@ -7,7 +7,7 @@ ghost use Rattle.mb_fdt_text.specs.Reader.{root_value, file_value};
 ghost use Rattle.mb_fdt.specs.SlotsView.{slots_of};
 ghost use Rattle.mb_fdt.specs.EntryView.{IsRead, scheme_by, parts_by, fault_of};
 
-use crate::known::{ENCODING_ID, INFO, MAX_BLOCK, SYMBOL};
+use crate::known::FileAttribute;
 use crate::root::RootSays;
 use crate::slots::Slots;
 use crate::values::*;
@@ -54,10 +54,13 @@ fn values_of(said: &Said<'_>, root: &RootSays<'_>, file: &Slots<'_>) -> Values
         transfer_length: u64_in(said.transfer_length),
         encoded: is_filled(said.encoding) || root.coding.encoded,
         md5: bytes_in(said.md5),
-        encoding_id: u8_over(file.value(ENCODING_ID), root.coding.encoding_id),
-        max_block: u32_over(file.value(MAX_BLOCK), root.coding.max_block),
-        symbol: u16_over(file.value(SYMBOL), root.coding.symbol),
-        info: info_over(file.value(INFO), root.coding.info),
+        encoding_id: u8_over(
+            file.of_file(FileAttribute::EncodingId),
+            root.coding.encoding_id,
+        ),
+        max_block: u32_over(file.of_file(FileAttribute::MaxBlock), root.coding.max_block),
+        symbol: u16_over(file.of_file(FileAttribute::Symbol), root.coding.symbol),
+        info: info_over(file.of_file(FileAttribute::Info), root.coding.info),
     }
 }
 

@@ -32,41 +32,56 @@ const FILE_NAMES: [&[u8]; 11] = [
     b"FEC-OTI-Scheme-Specific-Info",
 ];
 
-// Where the values of the root's attributes stand in this order.
-pub(crate) const EXPIRES: usize = 0;
+/// An attribute of the root that is read. Each has the slot of its place in the order of the names.
+#[derive(Clone, Copy)]
+pub(crate) enum RootAttribute {
+    Expires,
+    Complete,
+    ContentType,
+    ContentEncoding,
+    EncodingId,
+    MaxBlock,
+    Symbol,
+    Info,
+}
 
-pub(crate) const COMPLETE: usize = 1;
+impl RootAttribute {
+    ghost use Rattle.mb_fdt.specs.AttributeView.{root_slot};
 
-pub(crate) const ROOT_ENCODING: usize = 3;
+    /// The attribute's slot.
+    pub(crate) fn slot(self) -> usize
+        ensures { result ≡ root_slot self }
+    {
+        self as usize
+    }
+}
 
-pub(crate) const ROOT_ENCODING_ID: usize = 4;
+/// An attribute of a File element that is read. Each has the slot of its place in the order of the names.
+#[derive(Clone, Copy)]
+pub(crate) enum FileAttribute {
+    Location,
+    Toi,
+    ContentLength,
+    TransferLength,
+    ContentType,
+    ContentEncoding,
+    Md5,
+    EncodingId,
+    MaxBlock,
+    Symbol,
+    Info,
+}
 
-pub(crate) const ROOT_MAX_BLOCK: usize = 5;
+impl FileAttribute {
+    ghost use Rattle.mb_fdt.specs.AttributeView.{file_slot};
 
-pub(crate) const ROOT_SYMBOL: usize = 6;
-
-pub(crate) const ROOT_INFO: usize = 7;
-
-// Where the values of a File element's attributes stand in this order.
-pub(crate) const LOCATION: usize = 0;
-
-pub(crate) const TOI: usize = 1;
-
-pub(crate) const CONTENT_LENGTH: usize = 2;
-
-pub(crate) const TRANSFER_LENGTH: usize = 3;
-
-pub(crate) const ENCODING: usize = 5;
-
-pub(crate) const MD5: usize = 6;
-
-pub(crate) const ENCODING_ID: usize = 7;
-
-pub(crate) const MAX_BLOCK: usize = 8;
-
-pub(crate) const SYMBOL: usize = 9;
-
-pub(crate) const INFO: usize = 10;
+    /// The attribute's slot.
+    pub(crate) fn slot(self) -> usize
+        ensures { result ≡ file_slot self }
+    {
+        self as usize
+    }
+}
 
 /// Whether an element of this name is a File element, where it is a child of the root (RFC 3926 section 3.4.2).
 pub(crate) fn is_file(name: &[u8]) -> bool

@@ -9,7 +9,7 @@ ghost use Rattle.mb_fdt.specs.ReaderView.{reader_of, reader_at, root_of, IsPlace
 ghost use Rattle.mb_fdt.specs.PathView.{path_of};
 ghost use Rattle.mb_fdt.specs.ValuesView.{value_of};
 
-use crate::known::COMPLETE;
+use crate::known::RootAttribute;
 use crate::reader::Reader;
 use crate::token::Token;
 use mb_base::Memory;
@@ -94,7 +94,7 @@ fn whole(at: usize, reader: Reader<'_>) -> Result<Fdt, FdtFault>
     match reader.root {
         Some(said) if outside => Ok(Fdt {
             expires: said.expires,
-            complete: says_yes(said.slots.value(COMPLETE)),
+            complete: says_yes(said.slots.of_root(RootAttribute::Complete)),
             files: FileEntries::from_vec(reader.files),
         }),
         _ => Err(FdtFault {

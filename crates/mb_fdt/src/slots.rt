@@ -1,6 +1,8 @@
 ghost use Rattle.std.specs.Prelude.{◌≡◌, ℕ, ◌≤◌, option_map, length, map, true};
 ghost use Rattle.mb_fdt.specs.TextValues.{are_texts};
 
+use crate::known::{FileAttribute, RootAttribute};
+
 /// The most attributes that are read in one tag.
 pub(crate) const SLOTS: usize = 11;
 
@@ -18,6 +20,7 @@ impl<'a> Slots<'a> {
     ghost use Rattle.std.specs.Prelude.{Some, None, slice_set, replicate, IfSome, IsUtf8};
     ghost use Rattle.mb_fdt_text.specs.Reader.{slot};
     ghost use Rattle.mb_fdt.specs.SlotsView.{slots_of};
+    ghost use Rattle.mb_fdt.specs.AttributeView.{root_slot, file_slot};
 
     /// So many slots without values.
     pub(crate) fn empty(count: usize) -> Self
@@ -40,6 +43,22 @@ impl<'a> Slots<'a> {
         } else {
             None
         }
+    }
+
+    /// The value of an attribute of the root, in whose tag these are the slots.
+    pub(crate) fn of_root(&self, attribute: RootAttribute) -> Option<&'a [u8]>
+        ensures exact { option_map (λ v. v.now) result ≡ slot (slots_of self.now) (root_slot attribute) }
+        ensures text { IfSome result (λ v. IsUtf8 v.now) }
+    {
+        self.value(attribute.slot())
+    }
+
+    /// The value of an attribute of a File element, in whose tag these are the slots.
+    pub(crate) fn of_file(&self, attribute: FileAttribute) -> Option<&'a [u8]>
+        ensures exact { option_map (λ v. v.now) result ≡ slot (slots_of self.now) (file_slot attribute) }
+        ensures text { IfSome result (λ v. IsUtf8 v.now) }
+    {
+        self.value(attribute.slot())
     }
 
     /// Puts a value into a slot, where there is such a slot.

@@ -6,7 +6,7 @@ ghost use Rattle.mb_fdt.specs.ReaderView.{reader_at, reader_of, root_of, next_of
 
 use crate::coding::coding_in;
 use crate::entry::entry;
-use crate::known::{EXPIRES, is_instance};
+use crate::known::{RootAttribute, is_instance};
 use crate::reader::{Next, Reader, fault, syntax};
 use crate::root::RootSays;
 use crate::slots::Slots;
@@ -55,7 +55,7 @@ impl<'a> Reader<'a> {
         ensures placed { (at : ℕ) → IsWithin at result self.new }
         ensures text { self.new.text ≡ self.old.text }
     {
-        let Some(value) = self.slots.value(EXPIRES) else {
+        let Some(value) = self.slots.of_root(RootAttribute::Expires) else {
             return fault(FdtKind::NoExpires, self.markup);
         };
         let Some(expires) = number_in(Some(value), EXPIRES_END) else {

@@ -6,7 +6,7 @@ ghost use Rattle.mb_fdt_text.specs.Entry.{said_by, toi_of};
 ghost use Rattle.mb_fdt.specs.SlotsView.{slots_of};
 ghost use Rattle.mb_fdt.specs.ValuesView.{said_of, value_of, over};
 
-use crate::known::*;
+use crate::known::{FileAttribute, RootAttribute};
 use crate::slots::Slots;
 use mb_base::{Bytes, Memory};
 use mb_xml::{base64_in, replaced, replaced_length};
@@ -35,17 +35,29 @@ pub(crate) fn said_in<'a>(root: &Slots<'a>, file: &Slots<'a>) -> Said<'a>
     ensures text { IfSome result.location (λ location. IsUtf8 location.now) }
 {
     Said {
-        location: file.value(LOCATION),
-        toi: file.value(TOI),
-        content_length: file.value(CONTENT_LENGTH),
-        transfer_length: file.value(TRANSFER_LENGTH),
-        encoding: file.value(ENCODING),
-        root_encoding: root.value(ROOT_ENCODING),
-        md5: file.value(MD5),
-        encoding_id: first_of(file.value(ENCODING_ID), root.value(ROOT_ENCODING_ID)),
-        max_block: first_of(file.value(MAX_BLOCK), root.value(ROOT_MAX_BLOCK)),
-        symbol: first_of(file.value(SYMBOL), root.value(ROOT_SYMBOL)),
-        info: first_of(file.value(INFO), root.value(ROOT_INFO)),
+        location: file.of_file(FileAttribute::Location),
+        toi: file.of_file(FileAttribute::Toi),
+        content_length: file.of_file(FileAttribute::ContentLength),
+        transfer_length: file.of_file(FileAttribute::TransferLength),
+        encoding: file.of_file(FileAttribute::ContentEncoding),
+        root_encoding: root.of_root(RootAttribute::ContentEncoding),
+        md5: file.of_file(FileAttribute::Md5),
+        encoding_id: first_of(
+            file.of_file(FileAttribute::EncodingId),
+            root.of_root(RootAttribute::EncodingId),
+        ),
+        max_block: first_of(
+            file.of_file(FileAttribute::MaxBlock),
+            root.of_root(RootAttribute::MaxBlock),
+        ),
+        symbol: first_of(
+            file.of_file(FileAttribute::Symbol),
+            root.of_root(RootAttribute::Symbol),
+        ),
+        info: first_of(
+            file.of_file(FileAttribute::Info),
+            root.of_root(RootAttribute::Info),
+        ),
     }
 }
 

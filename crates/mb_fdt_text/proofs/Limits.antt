@@ -4,7 +4,7 @@ use Rattle.std.specs.Prelude.{IfOk}
 use Rattle.std.specs.List.{AllByRecursion, list_all}
 use Rattle.std.proofs.lemmas.List.{length-map}
 use Rattle.std.proofs.lemmas.Grind.{common_steps}
-use Rattle.mb_geom.specs.Description.{Description, description_of, ok_unless, described}
+use Rattle.mb_geom.specs.Description.{description_of, ok_unless, described}
 use Rattle.mb_geom.specs.Description.{refusals as refusals_of, first_fault}
 use Rattle.mb_geom.specs.declared.desc.DescFault.{DescFault}
 use Rattle.std.specs.Str.Parse.{digits_value}

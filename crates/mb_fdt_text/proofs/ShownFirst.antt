@@ -1,5 +1,5 @@
 -- The fault of bytes is what their shortest front shows that shows any, or that they end too early.
-use Rattle.std.proofs.Common.{◌≡◌, ◌≢◌, ◌⊎◌, ℕ, suc, ◌+◌, ◌-◌, ◌<◌, ◌≤◌, List, [], ◌∷◌, ◌++◌, length, take, drop, Ok, Err, IsUtf8, refl, sym, ap, subst, ◌∙◌, inl, inr, arith, append_assoc, append-nil, length-append, length-take-le, take_at, take_all, take-append-drop}
+use Rattle.std.proofs.Common.{◌≡◌, ◌≢◌, ◌⊎◌, ℕ, suc, ◌-◌, ◌<◌, ◌≤◌, List, [], ◌∷◌, ◌++◌, length, take, drop, Ok, Err, IsUtf8, refl, sym, ap, subst, ◌∙◌, inl, inr, arith, append_assoc, append-nil, length-append, length-take-le, take_at, take_all, take-append-drop}
 use Rattle.std.specs.Str.{IsValidUpTo}
 use Rattle.std.proofs.lemmas.Bool.{cases_lt}
 use Rattle.std.proofs.lemmas.List.{take-append-le}
@@ -7,7 +7,7 @@ use Rattle.mb_fdt_text.specs.declared.fdt.FdtFault.{FdtFault}
 use Rattle.mb_fdt_text.specs.declared.fdt.FdtKind.{FdtKind}
 use Rattle.mb_fdt_text.specs.declared.fdt.FdtKind.TheVariants.{NotUtf8, Syntax, Forbidden, Depth, NoExpires, BadExpires, RepeatedAttribute, TooManyFiles}
 use Rattle.mb_fdt_text.specs.Text.{Text, text_bytes, IsText, IsBeginning}
-use Rattle.mb_fdt_text.specs.Faults.{ShowsOther, ShowsNoOther, MayGoOn, PassesBelow, IsShownFirst, IsLongestBeginning, IsSyntaxFault, IsFaultOf, IsFault, ShowsSyntax, Shows, ShowsNothingBelow, ShowsFirst, EndsEarly, IsFaultShown}
+use Rattle.mb_fdt_text.specs.Faults.{ShowsOther, ShowsNoOther, MayGoOn, PassesBelow, IsShownFirst, IsLongestBeginning, IsSyntaxFault, IsFaultOf, IsFault, Shows, ShowsNothingBelow, ShowsFirst, EndsEarly, IsFaultShown}
 use Rattle.mb_fdt_text.specs.Reader.{begin, Next, steps}
 use Rattle.mb_fdt_text.specs.Laws.{FaultsAreShown, NotUtf8IsShown}
 use Rattle.mb_fdt_text.proofs.Counting.{counts_from_begin}

@@ -1,6 +1,8 @@
 ghost use Rattle.std.specs.Prelude.{◌≡◌, ℕ, List, length};
 
 use mb_geom::{Desc, DescFault};
+use std::error::Error;
+use std::fmt;
 use std::marker::Model;
 
 /// What an FDT Instance says (RFC 3926 section 3.4.2).
@@ -73,6 +75,20 @@ pub enum Attr {
     FecOtiEncodingSymbolLength,
 }
 
+impl Attr {
+    /// The attribute's name (RFC 3926 section 3.4.2).
+    pub fn name(self) -> &'static str {
+        match self {
+            Attr::Toi => "TOI",
+            Attr::ContentLength => "Content-Length",
+            Attr::TransferLength => "Transfer-Length",
+            Attr::FecOtiFecEncodingId => "FEC-OTI-FEC-Encoding-ID",
+            Attr::FecOtiMaximumSourceBlockLength => "FEC-OTI-Maximum-Source-Block-Length",
+            Attr::FecOtiEncodingSymbolLength => "FEC-OTI-Encoding-Symbol-Length",
+        }
+    }
+}
+
 /// Why a File element gives no description. Where several reasons hold, the first in this order is given.
 #[derive(Clone, Copy, Debug, PartialEq, Eq)]
 pub enum FileFault {
@@ -92,17 +108,60 @@ pub enum FileFault {
     Desc(DescFault),
 }
 
+impl fmt::Display for FileFault {
+    fn fmt<W: fmt::Write>(&self, f: &mut fmt::Formatter<W>) -> fmt::Result {
+        match self {
+            FileFault::NoLocation => f.write_str("no location is given"),
+            FileFault::LongLocation => f.write_str("the location has more than 2,048 bytes"),
+            FileFault::NoToi => f.write_str("no TOI is given"),
+            FileFault::BadNumber(attribute) => {
+                write!(f, "{} is no number in its range", attribute.name())
+            }
+            FileFault::BadMd5 => f.write_str("Content-MD5 is no base64 of 16 bytes"),
+            FileFault::BadInfo => {
+                f.write_str("the scheme-specific information is no base64 of four bytes")
+            }
+            FileFault::Desc(fault) => write!(f, "{fault}"),
+        }
+    }
+}
+
+impl Error for FileFault {}
+
 /// Why a text is no FDT Instance.
 #[derive(Clone, Copy, Debug, PartialEq, Eq)]
 pub enum FdtKind {
+    /// It is no UTF-8.
     NotUtf8,
+    /// No text goes on so, or it ends too early.
     Syntax,
+    /// It has a document type declaration, a CDATA section or a processing instruction.
     Forbidden,
+    /// An element stands inside 16 others.
     Depth,
+    /// The root has no Expires.
     NoExpires,
+    /// The root's Expires is no number of 32 bits.
     BadExpires,
+    /// A tag has an attribute twice that is read.
     RepeatedAttribute,
+    /// The root has more than 1,024 File elements.
     TooManyFiles,
+}
+
+impl fmt::Display for FdtKind {
+    fn fmt<W: fmt::Write>(&self, f: &mut fmt::Formatter<W>) -> fmt::Result {
+        f.write_str(match self {
+            FdtKind::NotUtf8 => "no UTF-8",
+            FdtKind::Syntax => "no text goes on so",
+            FdtKind::Forbidden => "a forbidden word",
+            FdtKind::Depth => "an element inside 16 others",
+            FdtKind::NoExpires => "no Expires",
+            FdtKind::BadExpires => "Expires is no number of 32 bits",
+            FdtKind::RepeatedAttribute => "an attribute stands twice",
+            FdtKind::TooManyFiles => "more than 1,024 files",
+        })
+    }
 }
 
 /// Why a text is no FDT Instance, and the offset in bytes where that shows.
@@ -111,3 +170,11 @@ pub struct FdtFault {
     pub kind: FdtKind,
     pub place: usize,
 }
+
+impl fmt::Display for FdtFault {
+    fn fmt<W: fmt::Write>(&self, f: &mut fmt::Formatter<W>) -> fmt::Result {
+        write!(f, "{} at byte {}", self.kind, self.place)
+    }
+}
+
+impl Error for FdtFault {}

@@ -3,6 +3,8 @@ ghost use Rattle.mb_base.specs.Number.{AreBytes};
 
 use crate::parts::{Parts, partition};
 use mb_base::Bytes;
+use std::error::Error;
+use std::fmt;
 use std::marker::Model;
 
 /// The most bytes of a file.
@@ -82,6 +84,24 @@ pub enum DescFault {
     /// The first block whose number of symbols is outside its scheme's limits, and that number.
     BlockSize(u16, u32),
 }
+
+impl fmt::Display for DescFault {
+    fn fmt<W: fmt::Write>(&self, f: &mut fmt::Formatter<W>) -> fmt::Result {
+        match self {
+            DescFault::Encoded => f.write_str("the content is encoded"),
+            DescFault::NoLength => f.write_str("no length is given"),
+            DescFault::LengthsDiffer => f.write_str("the two lengths differ"),
+            DescFault::TooLong => f.write_str("the file has more than 2^28 bytes"),
+            DescFault::NoScheme => f.write_str("the scheme or the symbol length is not given"),
+            DescFault::ZeroSymbol => f.write_str("the symbol length is 0"),
+            DescFault::Parameters => f.write_str("the scheme's parameters do not fit"),
+            DescFault::TooManyBlocks => f.write_str("there are more than 65,536 blocks"),
+            DescFault::BlockSize(number, size) => write!(f, "block {number} has {size} symbols"),
+        }
+    }
+}
+
+impl Error for DescFault {}
 
 /// The description of a file that is known to make sense. A contract sees it as a `Description`.
 #[derive(Drop)]
