@@ -114,3 +114,34 @@ fn chance_from_a_list_ends_in_zeros(rt: HostRuntime) -> Result<(), Fail> {
     }
     Ok(())
 }
+
+/// So many bytes.
+fn bytes_of(alloc: Global, len: usize) -> Result<Vec<u8>, Memory> {
+    let mut bytes = Vec::new(alloc);
+    for i in 0..len {
+        bytes.push((i % 251) as u8)?;
+    }
+    Ok(bytes)
+}
+
+fn send<L: Links>(links: &mut L, bytes: &[u8]) -> Result<usize, Failed> {
+    links.connect(1)?;
+    links.send(bytes)
+}
+
+#[test]
+fn objects_in_memory_keep_what_is_long(rt: HostRuntime) -> Result<(), Fail> {
+    let long = bytes_of(rt.alloc(), 70_000)?;
+    let location = bytes_of(rt.alloc(), 2_048)?;
+    let mut links = links_of(rt.alloc(), b"", &[])?;
+    assert_eq!(rt; send(&mut links, &long)?, 70_000);
+    assert!(rt; links.len() == 1 && links.sent(0) == long.as_slice());
+    let mut sink = MemSink::new(rt.alloc(), Vec::new(rt.alloc()))?;
+    write_all(&mut sink, &long)?;
+    assert!(rt; sink.written() == long.as_slice());
+    let mut store = MemStore::new(rt.alloc(), Vec::new(rt.alloc()))?;
+    store.put(u128::MAX, &location, &long)?;
+    assert!(rt; store.len() == 1 && store.toi(0) == u128::MAX);
+    assert!(rt; store.location(0) == location.as_slice() && store.bytes(0) == long.as_slice());
+    Ok(())
+}

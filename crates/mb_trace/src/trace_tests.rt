@@ -199,3 +199,41 @@ fn a_written_trace_is_read_back(rt: HostRuntime) -> Result<(), Fail> {
     assert_eq!(rt; writes_and_reads(rt.alloc(), &sent), Ok(true));
     Ok(())
 }
+
+/// A trace of so many records. The datagram of each has its moment modulo 256, that many times.
+fn many_records(alloc: Global, count: u64) -> Result<Vec<u8>, Memory> {
+    let mut trace = Vec::new(alloc);
+    for at in 0..count.min(0xffff) {
+        let mut datagram = Vec::new(alloc);
+        for _ in 0..at % 256 {
+            datagram.push((at % 256) as u8)?;
+        }
+        if datagram.len() <= DATAGRAM_MAX {
+            trace_bytes(at, &datagram, &mut trace)?;
+        }
+    }
+    Ok(trace)
+}
+
+/// How many of those records come in their order.
+fn count_heard(listener: &mut Listener) -> u64 {
+    for count in 0..u64::MAX {
+        let wanted = AirEvent::Datagram {
+            at: count,
+            len: (count % 256) as usize,
+        };
+        if listener.next(u64::MAX) != wanted {
+            return count;
+        }
+    }
+    0
+}
+
+#[test]
+fn records_behind_the_thousandth_are_heard(rt: HostRuntime) -> Result<(), Fail> {
+    let trace = many_records(rt.alloc(), 3_000).ok().ok_or("memory")?;
+    let mut listener = listen(rt.alloc(), &trace, 1_000, 0).ok().ok_or("memory")?;
+    assert_eq!(rt; count_heard(&mut listener), 3_000);
+    assert_eq!(rt; listener.next(u64::MAX), AirEvent::Ended);
+    Ok(())
+}
