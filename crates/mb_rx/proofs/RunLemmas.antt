@@ -9,12 +9,11 @@ use Rattle.mb_rx.specs.declared.words.RxWords.{RxWords}
 use Rattle.mb_rx.specs.declared.cause.Cause.{Cause}
 use Rattle.mb_rx.specs.declared.cause.Ending.{Ending}
 use Rattle.mb_rx.specs.declared.cause.Ending.TheVariants.{EndsBy, BreaksAt}
-use Rattle.mb_rx.specs.declared.cause.TheConstants.{DATAGRAMS_MAX}
 use Rattle.mb_rx.specs.declared.session.Listened.{Listened}
 use Rattle.mb_rx.specs.Lines as line
 use Rattle.mb_rx.specs.Receiver.{Receiver, fresh}
 use Rattle.mb_rx.specs.Run.{Event, Put, Line, Ask, Session, session, end_events, is_complete}
-use Rattle.mb_rx.specs.Receive.{IsPutNext, Outputs, Makes, Stops, Takes, IsEnding, IsRun, Leaves, Receives, Refuses, events_by, known_of, ClosesBy, is_closed, TakesWhileOpen}
+use Rattle.mb_rx.specs.Receive.{IsPutNext, Outputs, Makes, Stops, Takes, IsEnding, IsRun, Leaves, Receives, Refuses, events_by, known_of, ClosesBy, is_closed, TakesWhileOpen, AreInTime, datagrams_max}
 use Rattle.mb_rx.specs.Listening.{Plays, Listens, after_records, TakenOpen}
 use Rattle.mb_rx.specs.Outcome.{Runs}
 use Rattle.mb_rx.proofs.Making.{Makes-trans, Stops-after, Stops-memory}
@@ -55,13 +54,14 @@ taken_open words records still before after heard split =
 
 -- a run, from what it left: the laws of honest datagrams and of ready files hold of every run
 run_of : (words : RxWords) (a b : Option Broadcast) (x y : Outputs) (result : Status) (records : List Record) (ending : Option Ending)
-    → Becomes a b (Takes records) → length records ≤ DATAGRAMS_MAX → TakenOpen words.tsi fresh records → ClosesBy ending (is_closed words records)
+    → Becomes a b (Takes records) → length records ≤ datagrams_max → AreInTime words records → TakenOpen words.tsi fresh records → ClosesBy ending (is_closed words records)
     → Becomes a b (λ _ air. IsEnding words records ending air)
     → Leaves result words records ending x y → IsRun words a b x y result
-run_of words a b x y result records ending taken within still closes ends left = record {
+run_of words a b x y result records ending taken within in_time still closes ends left = record {
   records = records;
   taken = taken;
   within = within;
+  in_time = in_time;
   while_open = taken_open words records still;
   ending = ending;
   closes = closes;
@@ -105,7 +105,7 @@ pub run-unheard : (words : RxWords) (a b : Option Broadcast) (new : Receiver) (x
     → result ≡ Err answer → answer ≡ reason → Listens words a b fresh new x y (Err reason) → Runs words a b x y result
 run-unheard words a b new x y reason answer result is same l =
     subst (λ (r : Result Status Status). Runs words a b x y r) (sym (is ∙ ap Err same))
-    (run_of words a b x y reason l.records None l.taken l.within l.while_open tt (goes_on words l.records a b l.taken)
+    (run_of words a b x y reason l.records None l.taken l.within l.in_time l.while_open tt (goes_on words l.records a b l.taken)
     (Leaves-played Listened reason words l.records x y (λ air. closed-is words l.records ∙ l.failed air) (subst (λ (es : List Event). Plays {A = Listened} x y es (Err reason)) (events_by-none words l.records) l.played)))
 
 -- the session ended, and its last lines were printed, or a status stopped them
@@ -126,7 +126,7 @@ run-ended words a b new x y z listened cause all result by l printed complete is
     let lives : is_complete (session words.tsi records) ≡ all =
     ap (λ (s : Session). is_complete s) (session-is words.tsi records) ∙ (ap (λ (r : Receiver). list_all (λ life. life.done) r.lives) (sym l.heard.0) ∙ sym complete) in
     subst (λ (s : Status). IsRun words a b x z s) (sym is)
-    (run_of words a b x z (cond all status.Done status.Incomplete) records (Some (EndsBy cause)) l.taken l.within l.while_open closes ended (finishes all words records cause x z made lives))
+    (run_of words a b x z (cond all status.Done status.Incomplete) records (Some (EndsBy cause)) l.taken l.within l.in_time l.while_open closes ended (finishes all words records cause x z made lives))
 
 pub run-unended : (words : RxWords) (a b : Option Broadcast) (new : Receiver) (x y z : Outputs) (listened : Listened) (cause : Cause) (reason answer : Status) (result : Result Status Status)
     → listened.ending ≡ EndsBy cause → Listens words a b fresh new x y (Ok listened)
@@ -142,7 +142,7 @@ run-unended words a b new x y z listened cause reason answer result by l printed
     subst (λ (es : List Event). Stops reason x z es) (events_by-ended words records cause)
     (Stops-after reason x y z _ _ l.played (subst (λ (r : Receiver). Stops reason y z (end_events (known_of words records (Some cause)) r (Some cause))) l.heard.0 (printed records (sym l.heard.1)))) in
     subst (λ (r : Result Status Status). Runs words a b x z r) (sym (is ∙ ap Err same))
-    (run_of words a b x z reason records (Some (EndsBy cause)) l.taken l.within l.while_open closes ended (Leaves-stopped reason words records (Some (EndsBy cause)) x z stopped))
+    (run_of words a b x z reason records (Some (EndsBy cause)) l.taken l.within l.in_time l.while_open closes ended (Leaves-stopped reason words records (Some (EndsBy cause)) x z stopped))
 
 -- the trace broke, and the line that says so was printed, or a status stopped it
 pub run-broken : (words : RxWords) (a b : Option Broadcast) (new : Receiver) (x y z : Outputs) (listened : Listened) (place : ℕ)
@@ -156,7 +156,7 @@ run-broken words a b new x y z listened place by l printed =
     subst (λ (e : Ending). Becomes a b (λ _ air. IsEnding words records (Some e) air)) by l.heard.3 in
     let made : Makes x z (events_by words records (Some (BreaksAt place))) =
     subst (λ (es : List Event). Makes x z es) (events_by-broken words records place) (Makes-trans x y z _ _ l.played printed) in
-    run_of words a b x z status.TraceBroken records (Some (BreaksAt place)) l.taken l.within l.while_open closes broke (tt, made)
+    run_of words a b x z status.TraceBroken records (Some (BreaksAt place)) l.taken l.within l.in_time l.while_open closes broke (tt, made)
 
 pub run-unbroken : (words : RxWords) (a b : Option Broadcast) (new : Receiver) (x y z : Outputs) (listened : Listened) (place : ℕ) (reason answer : Status) (result : Result Status Status)
     → listened.ending ≡ BreaksAt place → Listens words a b fresh new x y (Ok listened) → Stops reason y z (Line (line.broken place) ∷ [])
@@ -170,7 +170,7 @@ run-unbroken words a b new x y z listened place reason answer result by l stoppe
     let stop : Stops reason x z (events_by words records (Some (BreaksAt place))) =
     subst (λ (es : List Event). Stops reason x z es) (events_by-broken words records place) (Stops-after reason x y z _ _ l.played stopped) in
     subst (λ (r : Result Status Status). Runs words a b x z r) (sym (is ∙ ap Err same))
-    (run_of words a b x z reason records (Some (BreaksAt place)) l.taken l.within l.while_open closes broke (Leaves-stopped reason words records (Some (BreaksAt place)) x z stop))
+    (run_of words a b x z reason records (Some (BreaksAt place)) l.taken l.within l.in_time l.while_open closes broke (Leaves-stopped reason words records (Some (BreaksAt place)) x z stop))
 
 pub from_fresh : (words : RxWords) (a b : Option Broadcast) (old new : Receiver) (x y : Outputs) (result : Result Listened Status) → old ≡ fresh
     → Listens words a b old new x y result → Listens words a b fresh new x y result
@@ -217,7 +217,7 @@ unprinted words air x y reason none stopped = refused_words words air x y reason
 
 pub no_memory : (words : Option RxWords) (air : Option Broadcast) (x : Outputs) → Receives words air air x x status.Memory
 no_memory None air x = (Stays-same air, Stops-memory x _)
-no_memory (Some words) air x = run_of words air air x x status.Memory [] None (Takes-none air) (omega arith) tt tt (goes_on words [] air air (Takes-none air)) (Stops-memory x _)
+no_memory (Some words) air x = run_of words air air x x status.Memory [] None (Takes-none air) (omega arith) tt tt tt (goes_on words [] air air (Takes-none air)) (Stops-memory x _)
 
 -- whose failure a stop is
 pub stop_of_store : (x y : Outputs) (events : List Event) (reason : Status) → reason ≡ status.StoreFault → Stops reason x y events → Rose x.store_faults y.store_faults

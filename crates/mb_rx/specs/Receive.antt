@@ -10,7 +10,6 @@ use Rattle.mb_rx.specs.declared.cause.Cause.{Cause}
 use Rattle.mb_rx.specs.declared.cause.Cause.TheVariants.{Quiet, Ended, Closed, Limit}
 use Rattle.mb_rx.specs.declared.cause.Ending.{Ending}
 use Rattle.mb_rx.specs.declared.cause.Ending.TheVariants.{EndsBy, BreaksAt}
-use Rattle.mb_rx.specs.declared.cause.TheConstants.{DATAGRAMS_MAX}
 use Rattle.mb_rx.specs.declared.words.RxWords.{RxWords}
 use Rattle.mb_rx.specs.Lines as line
 use Rattle.mb_rx.specs.Receiver.{Life, step, is_ready}
@@ -90,6 +89,10 @@ Does before after events (Err reason) = Stops reason before after events
 
 -- How a session goes.
 
+-- how many datagrams it takes at most
+abbrev pub datagrams_max : ℕ
+datagrams_max = 4294967295
+
 -- no record is left, and the trace is broken there, or it is not
 pub record IsOver (broken : Option ℕ) (air : Broadcast) : Type 0 where
   pub none_left : air.records ≡ []
@@ -101,7 +104,7 @@ IsEnding words records None air = ⊤
 IsEnding words records (Some (EndsBy Quiet)) air = IsPast words.until air.records
 IsEnding words records (Some (EndsBy Ended)) air = IsOver None air
 IsEnding words records (Some (EndsBy Closed)) air = ⊤
-IsEnding words records (Some (EndsBy Limit)) air = length records ≡ DATAGRAMS_MAX
+IsEnding words records (Some (EndsBy Limit)) air = length records ≡ datagrams_max
 IsEnding words records (Some (BreaksAt place)) air = IsOver (Some place) air
 
 -- the sender closed the session with these records
@@ -120,6 +123,10 @@ ClosesBy (Some (BreaksAt place)) closed = closed ≡ false
 -- no record was taken once the sender had closed the session
 abbrev pub TakesWhileOpen : RxWords → List Record → Type 0
 TakesWhileOpen words records = (before after : List Record) (heard : Record) → records ≡ before ++ heard ∷ after → is_closed words before ≡ false
+
+-- none is later than the last moment to listen
+abbrev pub AreInTime : RxWords → List Record → Type 0
+AreInTime words records = AllByRecursion (λ heard. heard.at ≤ words.until) records
 
 -- these records were taken, and nothing else changed
 abbrev pub Takes : List Record → Broadcast → Broadcast → Type 0
@@ -174,7 +181,8 @@ PutsEachReady tsi records puts = (before after : List Record) (heard : Record) (
 pub record IsRun (words : RxWords) (air_before air_after : Option Broadcast) (before after : Outputs) (result : Status) : Type 0 where
   pub records : List Record
   pub taken : Becomes air_before air_after (Takes records)
-  pub within : length records ≤ DATAGRAMS_MAX
+  pub within : length records ≤ datagrams_max
+  pub in_time : AreInTime words records
   pub while_open : TakesWhileOpen words records
   -- none where the session had not ended
   pub ending : Option Ending
@@ -218,8 +226,8 @@ pub record IsCutTrace (words : RxWords) (air : Option Broadcast) : Type 0 where
   pub told : air ≡ Some broadcast
   pub place : ℕ
   pub broken : broadcast.broken ≡ Some place
-  pub few : length broadcast.records < DATAGRAMS_MAX
-  pub in_time : AllByRecursion (λ heard. heard.at ≤ words.until) broadcast.records
+  pub few : length broadcast.records < datagrams_max
+  pub in_time : AreInTime words broadcast.records
   pub while_open : is_closed words broadcast.records ≡ false
 
 -- the session was received to its end, or memory was wanting
