@@ -4,6 +4,10 @@ use Rattle.mb_base.specs.Held.{held_bytes}
 use Rattle.mb_base.specs.Trace.{trace_broadcast, bytes_ahead, has_record}
 use Rattle.mb_base.specs.declared.trace_reader.TraceReader.{TraceReader}
 
+-- the bytes that were read and not yet given
+abbrev pub held_of : TraceReader → List ℕ
+held_of reader = held_bytes reader.held
+
 -- what a reader has ahead of it, where its source has these bytes left
 abbrev pub ahead_of : TraceReader → Option ℕ → Option (List ℕ) → Option Broadcast
 ahead_of reader rested left = option_map (trace_broadcast reader.place rested) (bytes_ahead (held_bytes reader.held) left)

@@ -1,7 +1,7 @@
-ghost use Rattle.std.specs.Prelude.{◌≡◌, ℕ, List, ◌^◌, ◌<◌, Option, true, length, option_map, IfOk};
+ghost use Rattle.std.specs.Prelude.{◌≡◌, ℕ, List, [], ◌^◌, ◌<◌, Option, true, false, length, option_map, IfOk};
 ghost use Rattle.mb_base.specs.Outside.{Becomes};
 ghost use Rattle.mb_base.specs.Broadcast.{Hears, IsWithin, EventCause};
-ghost use Rattle.mb_base.specs.Trace.{trace_broadcast};
+ghost use Rattle.mb_base.specs.Trace.{trace_broadcast, bytes_ahead, Gives};
 
 use crate::held::Held;
 use crate::trace::whole_record;
@@ -20,12 +20,13 @@ pub struct TraceReader {
 }
 
 impl TraceReader {
-    ghost use Rattle.mb_base.specs.TraceReader.{ahead_of, holds_record};
+    ghost use Rattle.mb_base.specs.TraceReader.{ahead_of, held_of, holds_record};
 
     /// A reader that has read nothing. `Memory` where there is no room for a record.
     pub fn new(alloc: Global) -> Result<TraceReader, Memory>
-        ensures { IfOk result (λ reader. (rested : Option ℕ) (left : Option (List ℕ))
+        ensures ahead { IfOk result (λ reader. (rested : Option ℕ) (left : Option (List ℕ))
             → ahead_of reader rested left ≡ option_map (trace_broadcast 0 rested) left) }
+        ensures none { IfOk result (λ reader. held_of reader ≡ []) }
     {
         let held = Held::new(alloc)?;
         Ok(TraceReader { held, place: 0 })
@@ -46,6 +47,10 @@ impl TraceReader {
         ensures within { IsWithin until result }
         ensures heard { (rested : Option ℕ) → Becomes (ahead_of self.old rested (S.left source.old))
             (ahead_of self.new rested (S.left source.new)) (Hears until result buf.new) }
+        ensures given { Becomes (bytes_ahead (held_of self.old) (S.left source.old))
+            (bytes_ahead (held_of self.new) (S.left source.new)) (Gives result buf.new) }
+        // It fails only where each whole record that it has read was given.
+        ensures failed { result ≡ AirEvent.Failed → (holds_record self.old ≡ false) × (holds_record self.new ≡ false) }
         ensures unread { holds_record self.old ≡ true → source.new ≡ source.old }
         // No moment is past the last that a record can have.
         ensures quiet { result ≡ AirEvent.Quiet → until < 2 ^ 48 }

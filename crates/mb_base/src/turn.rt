@@ -1,8 +1,8 @@
-ghost use Rattle.std.specs.Prelude.{◌≡◌, ◌≢◌, ℕ, List, Option, true, ◌++◌, ◌^◌, ◌<◌, length, IfOk, IfSome, IfNone};
+ghost use Rattle.std.specs.Prelude.{◌≡◌, ◌≢◌, ℕ, List, Option, true, false, ◌++◌, ◌^◌, ◌<◌, length, IfOk, IfSome, IfNone, OnErr};
 ghost use Rattle.mb_base.specs.Outside.{HasCause, Stays, EndsAt};
 ghost use Rattle.mb_base.specs.Broadcast.{Hears, IsWithin, EventCause};
 ghost use Rattle.mb_base.specs.Held.{held_bytes};
-ghost use Rattle.mb_base.specs.Trace.{trace_broadcast, bytes_ahead, has_record, IsWhole, IsPart};
+ghost use Rattle.mb_base.specs.Trace.{trace_broadcast, bytes_ahead, has_record, IsWhole, IsPart, Gives};
 
 use crate::held::Held;
 use crate::number::be48;
@@ -18,6 +18,7 @@ pub(crate) fn fill_record<S: Source>(
         (bytes_ahead (held_bytes held.new) (S.left source.new)) }
     ensures whole { IfOk result (λ found. IfSome found (λ size. IsWhole size (held_bytes held.new))) }
     ensures end { IfOk result (λ found. IfNone found (IsPart (held_bytes held.new) × EndsAt (S.left source.new))) }
+    ensures failed { OnErr result ((has_record (held_bytes held.old) ≡ false) × (has_record (held_bytes held.new) ≡ false)) }
     ensures unread { has_record (held_bytes held.old) ≡ true → source.new ≡ source.old }
     ensures cause { HasCause (S.faults source.old) (S.faults source.new) result }
     ensures same { S.made source.new ≡ S.made source.old }
@@ -46,7 +47,9 @@ pub(crate) fn give(
     ensures heard { (rested : Option ℕ) (later : List ℕ) → Hears until result buf.new
         (trace_broadcast place.old rested (held_bytes held.old ++ later))
         (trace_broadcast place.new rested (held_bytes held.new ++ later)) }
+    ensures given { (later : List ℕ) → Gives result buf.new (held_bytes held.old ++ later) (held_bytes held.new ++ later) }
     ensures quiet { result ≡ AirEvent.Quiet → until < 2 ^ 48 }
+    ensures unfailed { result ≢ AirEvent.Failed }
     ensures cause { (count : ℕ) → EventCause count count result }
 {
     let record = held.as_slice();
@@ -67,6 +70,8 @@ pub(crate) fn end_at(place: u64, bytes: &[u8]) -> AirEvent
     ensures within { (until : ℕ) → IsWithin until result }
     ensures heard { (until : ℕ) (rested : Option ℕ) (buf : List ℕ) → Hears until result buf
         (trace_broadcast place rested bytes.now) (trace_broadcast place rested bytes.now) }
+    ensures given { (buf bytes : List ℕ) → Gives result buf bytes bytes }
+    ensures unfailed { result ≢ AirEvent.Failed }
     ensures quiet { result ≢ AirEvent.Quiet }
     ensures cause { (count : ℕ) → EventCause count count result }
 {

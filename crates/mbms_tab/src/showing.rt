@@ -1,8 +1,7 @@
-ghost use Rattle.std.specs.Prelude.{◌≡◌, [], None, option_map, length, string_bytes, vec_len, IfOk};
-ghost use Rattle.mb_base.specs.Trace.{trace_broadcast};
-ghost use Rattle.mb_base.specs.TraceReader.{ahead_of};
+ghost use Rattle.std.specs.Prelude.{◌≡◌, [], length, string_bytes, vec_len, IfOk};
+ghost use Rattle.mb_base.specs.TraceReader.{holds_record};
 ghost use Rattle.mb_base.specs.declared.outcome.Status.TheVariants as status;
-ghost use Rattle.mbms_tab.specs.Steps.{CountsFaults, IsNext, IsRead, ShowsOrStops};
+ghost use Rattle.mbms_tab.specs.Steps.{ahead_of, trace_ahead, CountsFaults, IsNext, IsRead, ShowsOrStops};
 
 use crate::lines::push_record;
 use crate::printing::{print_before_read, print_end};
@@ -29,8 +28,8 @@ fn gather_next<S: Source>(
     lines: &mut String,
 ) -> Result<Turn, Status>
     requires { length buf.old ≡ DATAGRAM_MAX }
-    ensures next { IsNext (ahead_of reader.old None (S.left src.old)) (ahead_of reader.new None (S.left src.new))
-        (string_bytes lines.old) (string_bytes lines.new) result }
+    ensures next { IsNext (holds_record reader.old) (ahead_of reader.old (S.left src.old)) (ahead_of reader.new (S.left src.new))
+        (S.left src.new) (string_bytes lines.old) (string_bytes lines.new) result }
     ensures cause { CountsFaults status.ReadFault (S.faults src.old) (S.faults src.new) result }
     ensures same { S.made src.new ≡ S.made src.old }
 {
@@ -57,7 +56,7 @@ fn read_lines<S: Source, O: Sink>(
 ) -> Result<Option<u64>, Status>
     requires room { length buf.old ≡ DATAGRAM_MAX }
     requires none { string_bytes lines.old ≡ [] }
-    ensures read { IsRead (ahead_of reader.old None (S.left src.old)) (string_bytes lines.new) (O.written out.old) (O.written out.new) result }
+    ensures read { IsRead (ahead_of reader.old (S.left src.old)) (S.left src.new) (string_bytes lines.new) (O.written out.old) (O.written out.new) result }
     ensures read_cause { CountsFaults status.ReadFault (S.faults src.old) (S.faults src.new) result }
     ensures print_cause { CountsFaults status.OutFault (O.faults out.old) (O.faults out.new) result }
     ensures same_src { S.made src.new ≡ S.made src.old }
@@ -85,7 +84,7 @@ pub fn show<S: Source, O: Sink>(
     src: &mut S,
     out: &mut O,
 ) -> Result<Option<u64>, Status>
-    ensures shown { ShowsOrStops (option_map (trace_broadcast 0 None) (S.left src.old)) (O.written out.old) (O.written out.new) result }
+    ensures shown { ShowsOrStops (trace_ahead (S.left src.old)) (S.left src.new) (O.written out.old) (O.written out.new) result }
     ensures read_cause { CountsFaults status.ReadFault (S.faults src.old) (S.faults src.new) result }
     ensures print_cause { CountsFaults status.OutFault (O.faults out.old) (O.faults out.new) result }
     ensures same_src { S.made src.new ≡ S.made src.old }

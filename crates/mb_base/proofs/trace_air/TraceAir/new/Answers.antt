@@ -11,5 +11,5 @@ unrested bytes broken = record { records = records_of bytes; broken = broken; re
 pub returns-clause-exact : goal.returns-clause-exact
 returns-clause-exact g c =
     λ bytes told short.
-    c.in_ok-reader.ensures None (g.S.Source.left c.args.source) ∙ ap (λ left. option_map (trace_broadcast 0 None) left) told
+    c.in_ok-reader.ensures.ahead None (g.S.Source.left c.args.source) ∙ ap (λ left. option_map (trace_broadcast 0 None) left) told
     ∙ ap (λ broken. Some (unrested bytes broken)) (told_place-exact bytes short)
