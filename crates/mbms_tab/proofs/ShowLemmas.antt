@@ -14,10 +14,11 @@ use Rattle.mb_base.specs.declared.air.AirEvent.TheVariants.{Datagram, Failed}
 use Rattle.mb_base.specs.declared.outcome.Status.{Status}
 use Rattle.mb_base.specs.declared.outcome.Status.TheVariants as status
 use Rattle.mb_base.proofs.Content.{Grows-nil, Grows-trans}
-use Rattle.mbms_tab.specs.Lines as line
+use Rattle.mb_program.specs.Lines as line
+use Rattle.mb_program.specs.Printing.{PrintsPart}
 use Rattle.mbms_tab.specs.Lines.{show_text, record_line}
 use Rattle.mbms_tab.specs.Forms.{show_arguments}
-use Rattle.mbms_tab.specs.Show.{records_max, break_text, trace_text, PrintsPart, PrintsFirst, PrintsCome, AreCome}
+use Rattle.mbms_tab.specs.Show.{records_max, break_text, trace_text, PrintsFirst, PrintsCome, AreCome}
 use Rattle.mbms_tab.specs.Steps.{PrintsUnless, Ahead, trace_ahead, Takes, TakesBytes, IsTaken, IsUnread, IsOver, IsNext, IsShownAhead, ShowsAhead, ShowsOrStops, IsGathered, IsReadSoFar, IsReadWhole, IsRead, Finishes}
 use Rattle.mbms_tab.specs.declared.showing.Turn.{Turn}
 use Rattle.mbms_tab.specs.declared.showing.Turn.TheVariants.{More, Over}
@@ -46,12 +47,6 @@ show_text-nil = refl
 pub show_text-one : (heard : Record) → show_text (heard ∷ []) ≡ record_line heard
 unfolding show_text
 show_text-one heard = append-nil (record_line heard)
-
--- the first bytes of a text
-pub PrintsPart-take : (text bytes : List ℕ) (n : ℕ) (before after : Option (List ℕ)) → bytes ≡ text → Grows before after (take n bytes)
-    → PrintsPart text before after
-PrintsPart-take text bytes n before after is grown =
-    record { printed = take n bytes; rest = drop n bytes; split = rw (sym is) (sym (take-append-drop n bytes)); grown = grown }
 
 -- a beginning of a text that stands between others
 pub PrintsPart-behind : (front text more whole : List ℕ) (before mid after : Option (List ℕ)) → whole ≡ front ++ (text ++ more)

@@ -5,7 +5,8 @@ use Rattle.mb_base.specs.Broadcast.{Record}
 use Rattle.mb_base.specs.Trace.{records_of, told_place}
 use Rattle.mb_base.specs.declared.outcome.Status.{Status}
 use Rattle.mb_base.specs.declared.outcome.Status.TheVariants as status
-use Rattle.mbms_tab.specs.Lines as line
+use Rattle.mb_program.specs.Lines as line
+use Rattle.mb_program.specs.Printing.{PrintsPart}
 use Rattle.mbms_tab.specs.Lines.{show_text}
 
 -- What a trace says. It counts as ended after so many records, and what follows is not shown.
@@ -37,13 +38,6 @@ break_text (Some place) = line.broken place
 -- all lines of a trace
 abbrev pub trace_text : List Record → Option ℕ → List ℕ
 trace_text records broken = show_text records ++ break_text broken
-
--- a beginning of the text was printed
-pub record PrintsPart (text : List ℕ) (before after : Option (List ℕ)) : Type 0 where
-  pub printed : List ℕ
-  pub rest : List ℕ
-  pub split : text ≡ printed ++ rest
-  pub grown : Grows before after printed
 
 -- the lines of the first records were printed, whole ones alone
 pub record PrintsFirst (records : List Record) (before after : Option (List ℕ)) : Type 0 where
@@ -88,9 +82,3 @@ pub record Shows (left left_now before after : Option (List ℕ)) (result : Stat
   pub within : length records ≤ records_max
   pub of : IsShownOf left records broken
   pub printed : Leaves result records broken left left_now before after
-
--- arguments without a form print one line
-abbrev pub Refuses : Status → Option (List ℕ) → Option (List ℕ) → Type 0
-Refuses status.Usage before after = Grows before after line.usage
-Refuses status.OutFault before after = PrintsPart line.usage before after
-Refuses _ before after = ⊥

@@ -1,29 +1,18 @@
 -- What the parts of showing a trace do.
 use Rattle.std.specs.Prelude.{◌≡◌, ℕ, ◌≤◌, Bool, true, false, nat_lt, if◌then◌else◌, List, [], ◌∷◌, ◌++◌, length, take, Option, Some, None, Result, Ok, Err, OnOk, option_map, ⊤}
-use Rattle.mb_base.specs.Outside.{Grows, Becomes, Stays, Rose}
+use Rattle.mb_base.specs.Outside.{Grows, Becomes, Stays}
 use Rattle.mb_base.specs.Broadcast.{Record, Broadcast}
 use Rattle.mb_base.specs.Trace.{trace_broadcast, bytes_ahead, has_record, AreRecords}
 use Rattle.mb_base.specs.TraceReader as reader
 use Rattle.mb_base.specs.declared.trace_reader.TraceReader.{TraceReader}
 use Rattle.mb_base.specs.declared.outcome.Status.{Status}
 use Rattle.mb_base.specs.declared.outcome.Status.TheVariants as status
+use Rattle.mb_program.specs.Printing.{PrintsPart, Prints}
 use Rattle.mbms_tab.specs.Lines as line
 use Rattle.mbms_tab.specs.Lines.{show_text}
-use Rattle.mbms_tab.specs.Show.{records_max, break_text, PrintsPart, Leaves}
+use Rattle.mbms_tab.specs.Show.{records_max, break_text, Leaves}
 use Rattle.mbms_tab.specs.declared.showing.Turn.{Turn}
 use Rattle.mbms_tab.specs.declared.showing.Turn.TheVariants.{More, Over}
-
--- A status comes only where the count of faults rose, which no part lowers.
-pub record CountsFaults {A : Type 0} (fault : Status) (before now : ℕ) (result : Result A Status) : Type 0 where
-  pub later : before ≤ now
-  pub kept : OnOk result (now ≡ before)
-  pub failed : result ≡ Err fault → Rose before now
-
--- the text was printed, or the sink failed in it
-abbrev pub Prints : List ℕ → Option (List ℕ) → Option (List ℕ) → Result (Unit {0}) Status → Type 0
-Prints text before after (Ok x) = Grows before after text
-Prints text before after (Err status.OutFault) = PrintsPart text before after
-Prints text before after (Err _) = ⊥
 
 -- where a record is held, the gathered lines wait on; else they were printed and none is kept, or the sink failed in them
 abbrev pub PrintsUnless : Bool → List ℕ → List ℕ → Option (List ℕ) → Option (List ℕ) → Result (Unit {0}) Status → Type 0

@@ -1,12 +1,13 @@
 ghost use Rattle.std.specs.Prelude.{◌≡◌, ◌≤◌, ◌↔◌, IsTrue, map, string_bytes};
 ghost use Rattle.mb_base.specs.Outside.{Rose};
 ghost use Rattle.mb_base.specs.declared.outcome.Status.TheVariants as status;
+ghost use Rattle.mb_program.specs.Printing.{Refuses};
 ghost use Rattle.mbms_tab.specs.Forms.{show_arguments, HasNoForm};
-ghost use Rattle.mbms_tab.specs.Show.{Shows, Refuses};
+ghost use Rattle.mbms_tab.specs.Show.{Shows};
 
-use crate::printing::print;
 use crate::showing::show;
 use mb_base::{Sink, Source, Status};
+use mb_program::refuse;
 use std::alloc::Global;
 use std::thread::Threads;
 
@@ -54,10 +55,7 @@ pub fn tab<R: Threads + Sync, S: Source, O: Sink>(
     ensures same_out { O.made out.new ≡ O.made out.old }
 {
     if !is_show(arguments) {
-        return match print(out, "usage\n") {
-            Ok(()) => Status::Usage,
-            Err(status) => status,
-        };
+        return refuse(out);
     }
     match show(alloc, src, out) {
         Ok(None) => Status::Done,

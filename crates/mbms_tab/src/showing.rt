@@ -1,7 +1,8 @@
 ghost use Rattle.std.specs.Prelude.{◌≡◌, [], length, string_bytes, vec_len, IfOk};
 ghost use Rattle.mb_base.specs.TraceReader.{holds_record};
 ghost use Rattle.mb_base.specs.declared.outcome.Status.TheVariants as status;
-ghost use Rattle.mbms_tab.specs.Steps.{ahead_of, trace_ahead, CountsFaults, IsNext, IsRead, ShowsOrStops};
+ghost use Rattle.mb_program.specs.Printing.{CountsFaults};
+ghost use Rattle.mbms_tab.specs.Steps.{ahead_of, trace_ahead, IsNext, IsRead, ShowsOrStops};
 
 use crate::lines::push_record;
 use crate::printing::{print_before_read, print_end};
@@ -94,6 +95,6 @@ pub fn show<S: Source, O: Sink>(
     let mut buf = room(alloc, DATAGRAM_MAX)?;
     let mut lines = String::new(alloc);
     let broken = read_lines(&mut reader, src, &mut buf, &mut lines, out)?;
-    print_end(broken, &mut lines, out)?;
+    print_end(alloc, broken, &mut lines, out)?;
     Ok(broken)
 }
