@@ -1,5 +1,4 @@
-pub mod Content
-pub mod NumberLemmas
-pub mod TraceLemmas
-pub mod HeldLemmas
-pub mod TraceLaws
+pub use Rattle.mb_outside.proofs.Content
+pub use Rattle.mb_trace.proofs.NumberLemmas
+pub use Rattle.mb_trace.proofs.TraceLemmas
+pub use Rattle.mb_trace.proofs.TraceLaws

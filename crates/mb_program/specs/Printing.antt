@@ -1,8 +1,8 @@
 -- What printing leaves in a sink, and when it fails.
 use Rattle.std.specs.Prelude.{◌≡◌, ℕ, ◌≤◌, List, ◌++◌, Option, Result, Ok, Err, OnOk}
 use Rattle.mb_base.specs.Outside.{Grows, Rose}
-use Rattle.mb_base.specs.declared.outcome.Status.{Status}
-use Rattle.mb_base.specs.declared.outcome.Status.TheVariants as status
+use Rattle.mb_base.specs.Status.{Status}
+use Rattle.mb_base.specs.Status.TheVariants as status
 use Rattle.mb_program.specs.Lines as line
 
 -- A status of a fault comes only where the count of faults rose, which no part lowers.

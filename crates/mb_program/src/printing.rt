@@ -1,6 +1,6 @@
 ghost use Rattle.std.specs.Prelude.{◌≡◌, ◌≤◌, string_bytes};
 ghost use Rattle.mb_base.specs.Outside.{Rose};
-ghost use Rattle.mb_base.specs.declared.outcome.Status.TheVariants as status;
+ghost use Rattle.mb_base.specs.Status.TheVariants as status;
 ghost use Rattle.mb_program.specs.Printing.{CountsFaults, Prints, Refuses};
 
 use mb_base::{Failed, Sink, Status, write_all};

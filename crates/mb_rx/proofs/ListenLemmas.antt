@@ -3,10 +3,10 @@
 use Rattle.std.proofs.Common.{◌≡◌, ℕ, ◌<◌, ◌≤◌, ◌+◌, false, length, length-append, List, [], ◌∷◌, ◌++◌, fold, take, Option, Some, None, Result, Ok, Err, refl, sym, ap, subst, ◌∙◌, append_assoc, append-nil, arith}
 use Rattle.std.proofs.lemmas.List.Sums.{fold-append}
 use Rattle.mb_base.specs.Outside.{Becomes}
-use Rattle.mb_base.specs.Broadcast.{Record, Broadcast, Hears, IsPast}
-use Rattle.mb_base.specs.declared.air.AirEvent.TheVariants.{Datagram, Quiet, Ended, Broken, Failed}
-use Rattle.mb_base.specs.declared.outcome.Status.{Status}
-use Rattle.mb_base.specs.declared.outcome.Status.TheVariants as status
+use Rattle.mb_base.specs.Broadcast.{Record, Broadcast, Hears, IsPast, Takes, IsOver}
+use Rattle.mb_base.specs.AirEvent.TheVariants.{Datagram, Quiet, Ended, Broken, Failed}
+use Rattle.mb_base.specs.Status.{Status}
+use Rattle.mb_base.specs.Status.TheVariants as status
 use Rattle.mb_rx.specs.declared.words.RxWords.{RxWords}
 use Rattle.mb_rx.specs.declared.session.Listened.{Listened}
 use Rattle.mb_rx.specs.declared.cause.Ending.{Ending}
@@ -14,7 +14,7 @@ use Rattle.mb_rx.specs.declared.cause.Ending.TheVariants.{EndsBy, BreaksAt}
 use Rattle.mb_rx.specs.declared.cause.Cause.TheVariants as cause
 use Rattle.mb_rx.specs.Receiver.{Receiver}
 use Rattle.mb_rx.specs.Run.{Event, Session, after_record}
-use Rattle.mb_rx.specs.Receive.{Outputs, Makes, Stops, Takes, AreInTime, IsEnding, IsOver, ClosesBy, datagrams_max}
+use Rattle.mb_rx.specs.Receive.{Outputs, Makes, Stops, AreInTime, IsEnding, ClosesBy, datagrams_most}
 use Rattle.mb_rx.specs.Listening as listening
 use Rattle.mb_rx.specs.Listening.{Plays, after_records, TakenOpen}
 use Rattle.mb_rx.proofs.Making.{Makes-nil, Makes-trans, Stops-after, Stops-memory}
@@ -219,7 +219,7 @@ so_far-next words n a b c old mid new x y z s next =
     }
 
 pub listens-stopped : (words : RxWords) (n : ℕ) (a b c : Option Broadcast) (old mid new : Receiver) (x y z : Outputs)
-    (reason answer : Status) (result : Result Listened Status) → listening.IsHeardSoFar words n a b old mid x y → n < datagrams_max
+    (reason answer : Status) (result : Result Listened Status) → listening.IsHeardSoFar words n a b old mid x y → n < datagrams_most
     → result ≡ Err answer → answer ≡ reason → listening.Hears words b c mid new y z (Err reason) → listening.Listens words a c old new x z result
 listens-stopped words n a b c old mid new x y z reason answer result s room is same next =
     let before = after_records words.tsi old s.records in

@@ -117,18 +117,18 @@ abbrev pub needed : (Description → ℕ) → List Life → ℕ
 needed need lives = sum_by (λ life. if life.done then 0 else need life.desc) lives
 
 -- how many lives stand at once at most
-abbrev pub lives_max : ℕ
-lives_max = 1024
+abbrev pub lives_most : ℕ
+lives_most = 1024
 
 -- how many bytes the symbols of lives take at most, and as many their equations
-abbrev pub needed_max : ℕ
-needed_max = 2 ^ 30
+abbrev pub needed_most : ℕ
+needed_most = 2 ^ 30
 
 -- one more life would pass a limit
 abbrev pub is_full : List Life → Description → Bool
-is_full lives d = nat_lt lives_max (length lives + 1)
-    || nat_lt needed_max (needed plain lives + plain d)
-    || nat_lt needed_max (needed equations lives + equations d)
+is_full lives d = nat_lt lives_most (length lives + 1)
+    || nat_lt needed_most (needed plain lives + plain d)
+    || nat_lt needed_most (needed equations lives + equations d)
 
 abbrev pub start_life : ℕ → ℕ → Description → Life
 start_life expires toi d = record { toi = toi; desc = d; expires = expires; heard = None; done = false }

@@ -7,19 +7,19 @@ use Rattle.std.proofs.lemmas.Bool.{lt-ltb, le-ltb}
 use Rattle.std.proofs.lemmas.Grind.{flat_map-append}
 use Rattle.std.proofs.Math.Seq.{take-add}
 use Rattle.mb_base.specs.Outside.{Grows, Becomes, Stays}
-use Rattle.mb_base.specs.Broadcast.{Record, Broadcast, Hears}
+use Rattle.mb_base.specs.Broadcast.{Record, Broadcast, Hears, Takes, IsOver}
 use Rattle.mb_base.specs.Trace.{trace_broadcast, bytes_ahead, has_record, records_of, AreRecords, Gives}
 use Rattle.mb_base.proofs.TraceLemmas.{records_of-none}
-use Rattle.mb_base.specs.declared.air.AirEvent.TheVariants.{Datagram, Failed}
-use Rattle.mb_base.specs.declared.outcome.Status.{Status}
-use Rattle.mb_base.specs.declared.outcome.Status.TheVariants as status
+use Rattle.mb_base.specs.AirEvent.TheVariants.{Datagram, Failed}
+use Rattle.mb_base.specs.Status.{Status}
+use Rattle.mb_base.specs.Status.TheVariants as status
 use Rattle.mb_base.proofs.Content.{Grows-nil, Grows-trans}
 use Rattle.mb_program.specs.Lines as line
 use Rattle.mb_program.specs.Printing.{PrintsPart}
 use Rattle.mbms_tab.specs.Lines.{show_text, record_line}
 use Rattle.mbms_tab.specs.Forms.{show_arguments}
-use Rattle.mbms_tab.specs.Show.{records_max, break_text, trace_text, PrintsFirst, PrintsCome, AreCome}
-use Rattle.mbms_tab.specs.Steps.{PrintsUnless, Ahead, trace_ahead, Takes, TakesBytes, IsTaken, IsUnread, IsOver, IsNext, IsShownAhead, ShowsAhead, ShowsOrStops, IsGathered, IsReadSoFar, IsReadWhole, IsRead, Finishes}
+use Rattle.mbms_tab.specs.Show.{records_most, break_text, trace_text, PrintsFirst, PrintsCome, AreCome}
+use Rattle.mbms_tab.specs.Steps.{PrintsUnless, Ahead, trace_ahead, TakesBytes, IsTaken, IsUnread, IsNext, IsShownAhead, ShowsAhead, ShowsOrStops, IsGathered, IsReadSoFar, IsReadWhole, IsRead, Finishes}
 use Rattle.mbms_tab.specs.declared.showing.Turn.{Turn}
 use Rattle.mbms_tab.specs.declared.showing.Turn.TheVariants.{More, Over}
 
@@ -130,7 +130,7 @@ unread-failed buf (Some a) (Some b) p = p
 pub record IsFrontOfShown (ahead : Option Broadcast) (records : List Record) : Type 0 where
   pub whole : List Record
   pub broken : Option ℕ
-  pub within : length whole ≤ records_max
+  pub within : length whole ≤ records_most
   pub of : IsShownAhead ahead whole broken
   pub later : List Record
   pub split : whole ≡ records ++ later
@@ -141,47 +141,47 @@ take_front xs ys most few =
     ap (λ (n : ℕ). take n (xs ++ ys)) sum ∙ (take-add (length xs) (most - length xs) (xs ++ ys)
     ∙ ap₂ (λ (front rest : List Record). front ++ take (most - length xs) rest) (take_at xs ys (length xs) refl) (drop_at xs ys (length xs) refl))
 
-pub front_of_shown : (a b : Option Broadcast) (records : List Record) → Becomes a b (Takes records) → length records ≤ records_max → IsFrontOfShown a records
+pub front_of_shown : (a b : Option Broadcast) (records : List Record) → Becomes a b (Takes records) → length records ≤ records_most → IsFrontOfShown a records
 front_of_shown None b records taken few =
     record { whole = records; broken = None; within = few; of = tt; later = []; split = sym (append-nil records) }
 front_of_shown (Some a) None records taken few = absurd taken
 front_of_shown (Some a) (Some b) records taken few = record {
-  whole = take records_max a.records;
-  broken = cond (nat_lt (length a.records) records_max) a.broken None;
-  within = omega (arith, length-take records_max a.records);
+  whole = take records_most a.records;
+  broken = cond (nat_lt (length a.records) records_most) a.broken None;
+  within = omega (arith, length-take records_most a.records);
   of = (refl, refl);
-  later = take (records_max - length records) b.records;
-  split = ap (λ (x : Broadcast). take records_max x.records) taken ∙ take_front records b.records records_max few;
+  later = take (records_most - length records) b.records;
+  split = ap (λ (x : Broadcast). take records_most x.records) taken ∙ take_front records b.records records_most few;
 }
 
 -- all were taken, for none is left
-pub shown_at_end : (a b c : Option Broadcast) (records : List Record) (broken : Option ℕ) → Becomes a b (Takes records) → length records < records_max
+pub shown_at_end : (a b c : Option Broadcast) (records : List Record) (broken : Option ℕ) → Becomes a b (Takes records) → length records < records_most
     → Becomes b c (λ old _. IsOver broken old) → IsShownAhead a records broken
 shown_at_end None b c records broken taken few over = tt
 shown_at_end (Some a) None c records broken taken few over = absurd taken
 shown_at_end (Some a) (Some b) None records broken taken few over = absurd over
 shown_at_end (Some a) (Some b) (Some c) records broken taken few over =
     let all : a.records ≡ records = ap (λ (x : Broadcast). x.records) taken ∙ (ap (λ (rs : List Record). records ++ rs) over.none_left ∙ append-nil records) in
-    let len : length a.records < records_max = omega (arith, ap length all) in
-    let below : nat_lt (length a.records) records_max ≡ true = lt-ltb _ _ len in
+    let len : length a.records < records_most = omega (arith, ap length all) in
+    let below : nat_lt (length a.records) records_most ≡ true = lt-ltb _ _ len in
     let end : a.broken ≡ broken = ap (λ (x : Broadcast). x.broken) taken ∙ over.end in
-    (sym (take_all records_max a.records (omega (arith, len)) ∙ all), sym (ap (λ (b : Bool). cond b a.broken None) below ∙ end))
+    (sym (take_all records_most a.records (omega (arith, len)) ∙ all), sym (ap (λ (b : Bool). cond b a.broken None) below ∙ end))
 
 -- as many were taken as are shown at most
-pub shown_at_limit : (a b : Option Broadcast) (records : List Record) → Becomes a b (Takes records) → length records ≡ records_max → IsShownAhead a records None
+pub shown_at_limit : (a b : Option Broadcast) (records : List Record) → Becomes a b (Takes records) → length records ≡ records_most → IsShownAhead a records None
 shown_at_limit None b records taken full = tt
 shown_at_limit (Some a) None records taken full = absurd taken
 shown_at_limit (Some a) (Some b) records taken full =
     let all : a.records ≡ records ++ b.records = ap (λ (x : Broadcast). x.records) taken in
-    let len : records_max ≤ length a.records = omega (arith, ap length all, length-append records b.records, full) in
-    let past : nat_lt (length a.records) records_max ≡ false = le-ltb _ _ len in
-    (sym (ap (take records_max) all ∙ take_at records b.records records_max full), sym (ap (λ (b : Bool). cond b a.broken None) past))
+    let len : records_most ≤ length a.records = omega (arith, ap length all, length-append records b.records, full) in
+    let past : nat_lt (length a.records) records_most ≡ false = le-ltb _ _ len in
+    (sym (ap (take records_most) all ∙ take_at records b.records records_most full), sym (ap (λ (b : Bool). cond b a.broken None) past))
 
 -- ---- what came
 
 -- the records that were taken are all whole ones that came, where a part of a record is left of it
 come_by : (a b left : Option (List ℕ)) (records : List Record) (part : List ℕ) → Becomes a b (TakesBytes records) → has_record part ≡ false
-    → Stays b (bytes_ahead part left) → length records ≤ records_max → Becomes a left (λ old new. AreCome old new records)
+    → Stays b (bytes_ahead part left) → length records ≤ records_most → Becomes a left (λ old new. AreCome old new records)
 come_by None b left records part taken none kept few = tt
 come_by (Some a) None left records part taken none kept few = absurd taken
 come_by (Some a) (Some b) None records part taken none kept few = absurd kept
@@ -191,7 +191,7 @@ come_by (Some a) (Some b) (Some left) records part taken none kept few =
     record {
       came = taken.0 ++ part;
       lost = taken.1 ∙ (ap (λ (l : List ℕ). taken.0 ++ l) (sym kept) ∙ sym (append_assoc taken.0 part left));
-      whole = sym (ap (take records_max) all ∙ take_all records_max records few);
+      whole = sym (ap (take records_most) all ∙ take_all records_most records few);
     }
 
 -- ---- gathered lines
@@ -256,7 +256,7 @@ stopped ahead records lines before after f s = record {
 
 -- the source failed, and no line was waiting
 unread : (a b : Ahead) (left : Option (List ℕ)) (records : List Record) (before after : Option (List ℕ)) (f : IsFrontOfShown a.broadcast records)
-    (holds : Bool) → IsTaken records a b → length records ≤ records_max → IsUnread holds b.bytes left → Grows before after (show_text records)
+    (holds : Bool) → IsTaken records a b → length records ≤ records_most → IsUnread holds b.bytes left → Grows before after (show_text records)
     → PrintsCome f.whole a.bytes left before after
 unread a b left records before after f holds taken few u grown = record {
   printed = records;
@@ -287,7 +287,7 @@ so_far-none ahead lines out none =
 
 -- the records so far are few enough to be shown
 so_far-front : (n : ℕ) (a b : Ahead) (lines : List ℕ) (before after : Option (List ℕ)) (s : IsReadSoFar n a b lines before after)
-    → n ≤ records_max → IsFrontOfShown a.broadcast s.records
+    → n ≤ records_most → IsFrontOfShown a.broadcast s.records
 so_far-front n a b lines before after s few = front_of_shown a.broadcast b.broadcast s.records s.taken.in_broadcast (omega (arith, s.length_is))
 
 -- the gathered lines were printed, or wait on
@@ -310,7 +310,7 @@ so_far-next holds x n a b c lines kept new left before mid after turn so_far pri
     }
 
 pub read-at_end : (holds : Bool) (x : Unit {0}) (n : ℕ) (a b c : Ahead) (lines kept new : List ℕ) (left before mid after : Option (List ℕ)) (turn : Turn) (broken : Option ℕ)
-    → IsReadSoFar n a b lines before mid → n < records_max → PrintsUnless holds lines kept mid after (Ok x) → turn ≡ Over broken
+    → IsReadSoFar n a b lines before mid → n < records_most → PrintsUnless holds lines kept mid after (Ok x) → turn ≡ Over broken
     → IsNext holds b c left kept new (Ok turn) → IsReadWhole a broken new before after
 read-at_end holds x n a b c lines kept new left before mid after turn broken so_far few printed over next =
     let s = so_far-kept holds x n a b lines kept before mid after so_far printed in
@@ -323,7 +323,7 @@ read-at_end holds x n a b c lines kept new left before mid after turn broken so_
     }
 
 pub read-at_limit : (n : ℕ) (a b : Ahead) (lines : List ℕ) (before after : Option (List ℕ)) → IsReadSoFar n a b lines before after
-    → n ≡ records_max → IsReadWhole a None lines before after
+    → n ≡ records_most → IsReadWhole a None lines before after
 read-at_limit n a b lines before after s full = record {
   records = s.records;
   within = omega (arith, s.length_is, full);
@@ -345,7 +345,7 @@ unprinted_by false ahead records lines kept left before mid after _ f s p = absu
 unprinted_by true ahead records lines kept left before mid after reason f s p = absurd p
 
 pub read-unprinted : (holds : Bool) (n : ℕ) (a b : Ahead) (lines kept : List ℕ) (left before mid after : Option (List ℕ)) (reason answer : Status) (result : Result (Option ℕ) Status)
-    → IsReadSoFar n a b lines before mid → n < records_max → PrintsUnless holds lines kept mid after (Err reason)
+    → IsReadSoFar n a b lines before mid → n < records_most → PrintsUnless holds lines kept mid after (Err reason)
     → result ≡ Err answer → answer ≡ reason → IsRead a left kept before after result
 read-unprinted holds n a b lines kept left before mid after reason answer result s few p is same =
     IsRead-err a kept left before after reason answer result is same
@@ -361,7 +361,7 @@ lines_of false x records lines kept before mid after none s p =
 
 -- the source failed, or memory was wanting
 stopped_by : (holds : Bool) (x : Unit {0}) (n : ℕ) (a b c : Ahead) (lines kept new : List ℕ) (left before mid after : Option (List ℕ)) (reason : Status)
-    → IsReadSoFar n a b lines before mid → n < records_max → PrintsUnless holds lines kept mid after (Ok x) → IsNext holds b c left kept new (Err reason)
+    → IsReadSoFar n a b lines before mid → n < records_most → PrintsUnless holds lines kept mid after (Ok x) → IsNext holds b c left kept new (Err reason)
     → ShowsAhead a left before after reason
 stopped_by holds x n a b c lines kept new left before mid after status.ReadFault s few p next =
     let f = so_far-front n a b lines before mid s (omega arith) in
@@ -385,7 +385,7 @@ stopped_by holds x n a b c lines kept new left before mid after status.Memory s 
 stopped_by holds x n a b c lines kept new left before mid after _ s few p next = absurd next
 
 pub read-stopped : (holds : Bool) (x : Unit {0}) (n : ℕ) (a b c : Ahead) (lines kept new : List ℕ) (left before mid after : Option (List ℕ)) (reason answer : Status) (result : Result (Option ℕ) Status)
-    → IsReadSoFar n a b lines before mid → n < records_max → PrintsUnless holds lines kept mid after (Ok x) → IsNext holds b c left kept new (Err reason)
+    → IsReadSoFar n a b lines before mid → n < records_most → PrintsUnless holds lines kept mid after (Ok x) → IsNext holds b c left kept new (Err reason)
     → result ≡ Err answer → answer ≡ reason → IsRead a left new before after result
 read-stopped holds x n a b c lines kept new left before mid after reason answer result so_far few printed next is same =
     IsRead-err a new left before after reason answer result is same (stopped_by holds x n a b c lines kept new left before mid after reason so_far few printed next)

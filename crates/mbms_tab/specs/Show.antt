@@ -3,8 +3,8 @@ use Rattle.std.specs.Prelude.{◌≡◌, ℕ, ◌≤◌, nat_lt, if◌then◌els
 use Rattle.mb_base.specs.Outside.{Grows, Becomes}
 use Rattle.mb_base.specs.Broadcast.{Record}
 use Rattle.mb_base.specs.Trace.{records_of, told_place}
-use Rattle.mb_base.specs.declared.outcome.Status.{Status}
-use Rattle.mb_base.specs.declared.outcome.Status.TheVariants as status
+use Rattle.mb_base.specs.Status.{Status}
+use Rattle.mb_base.specs.Status.TheVariants as status
 use Rattle.mb_program.specs.Lines as line
 use Rattle.mb_program.specs.Printing.{PrintsPart}
 use Rattle.mbms_tab.specs.Lines.{show_text}
@@ -12,16 +12,16 @@ use Rattle.mbms_tab.specs.Lines.{show_text}
 -- What a trace says. It counts as ended after so many records, and what follows is not shown.
 
 -- how many records are shown at most
-abbrev pub records_max : ℕ
-records_max = 4294967295
+abbrev pub records_most : ℕ
+records_most = 4294967295
 
 -- the records that are shown
 abbrev pub shown_records : List ℕ → List Record
-shown_records bytes = take records_max (records_of bytes)
+shown_records bytes = take records_most (records_of bytes)
 
 -- the place where the trace is broken behind them
 abbrev pub shown_break : List ℕ → Option ℕ
-shown_break bytes = if nat_lt (length (records_of bytes)) records_max then told_place 0 bytes else None
+shown_break bytes = if nat_lt (length (records_of bytes)) records_most then told_place 0 bytes else None
 
 -- where the bytes of the trace are told, these are the records and the place
 abbrev pub IsShownOf : Option (List ℕ) → List Record → Option ℕ → Type 0
@@ -79,6 +79,6 @@ Leaves _ records broken left left_now before after = ⊥
 pub record Shows (left left_now before after : Option (List ℕ)) (result : Status) : Type 0 where
   pub records : List Record
   pub broken : Option ℕ
-  pub within : length records ≤ records_max
+  pub within : length records ≤ records_most
   pub of : IsShownOf left records broken
   pub printed : Leaves result records broken left left_now before after

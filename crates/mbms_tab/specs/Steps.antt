@@ -1,16 +1,14 @@
 -- What the parts of showing a trace do.
 use Rattle.std.specs.Prelude.{◌≡◌, ℕ, ◌≤◌, Bool, true, false, nat_lt, if◌then◌else◌, List, [], ◌∷◌, ◌++◌, length, take, Option, Some, None, Result, Ok, Err, OnOk, option_map, ⊤}
 use Rattle.mb_base.specs.Outside.{Grows, Becomes, Stays}
-use Rattle.mb_base.specs.Broadcast.{Record, Broadcast}
+use Rattle.mb_base.specs.Broadcast.{Record, Broadcast, Takes, IsOver}
 use Rattle.mb_base.specs.Trace.{trace_broadcast, bytes_ahead, has_record, AreRecords}
-use Rattle.mb_base.specs.TraceReader as reader
-use Rattle.mb_base.specs.declared.trace_reader.TraceReader.{TraceReader}
-use Rattle.mb_base.specs.declared.outcome.Status.{Status}
-use Rattle.mb_base.specs.declared.outcome.Status.TheVariants as status
+use Rattle.mb_base.specs.Status.{Status}
+use Rattle.mb_base.specs.Status.TheVariants as status
 use Rattle.mb_program.specs.Printing.{PrintsPart, Prints}
 use Rattle.mbms_tab.specs.Lines as line
 use Rattle.mbms_tab.specs.Lines.{show_text}
-use Rattle.mbms_tab.specs.Show.{records_max, break_text, Leaves}
+use Rattle.mbms_tab.specs.Show.{records_most, break_text, Leaves}
 use Rattle.mbms_tab.specs.declared.showing.Turn.{Turn}
 use Rattle.mbms_tab.specs.declared.showing.Turn.TheVariants.{More, Over}
 
@@ -26,29 +24,22 @@ pub record Ahead : Type 0 where
   pub bytes : Option (List ℕ)
   pub broadcast : Option Broadcast
 
-abbrev pub ahead_of : TraceReader → Option (List ℕ) → Ahead
-ahead_of r left = record { bytes = bytes_ahead (reader.held_of r) left; broadcast = reader.ahead_of r None left }
+-- by the bytes that it holds, those that its source has left, and what both say
+abbrev pub ahead_by : List ℕ → Option (List ℕ) → Option Broadcast → Ahead
+ahead_by held left broadcast = record { bytes = bytes_ahead held left; broadcast = broadcast }
 
 -- of a reader that has read nothing
 abbrev pub trace_ahead : Option (List ℕ) → Ahead
 trace_ahead left = record { bytes = left; broadcast = option_map (trace_broadcast 0 None) left }
 
--- these records were taken, and nothing else changed
-abbrev pub Takes : List Record → Broadcast → Broadcast → Type 0
-Takes records old new = old ≡ record new { records = records ++ new.records }
-
--- their bytes were
+-- the bytes of these records were taken
 abbrev pub TakesBytes : List Record → List ℕ → List ℕ → Type 0
 TakesBytes records old new = (bytes : List ℕ) × (old ≡ bytes ++ new) × AreRecords bytes records
 
+-- these records were taken, and nothing else changed
 pub record IsTaken (records : List Record) (old new : Ahead) : Type 0 where
   pub in_bytes : Becomes old.bytes new.bytes (TakesBytes records)
   pub in_broadcast : Becomes old.broadcast new.broadcast (Takes records)
-
--- no record is left, and the trace is broken there, or it is not
-pub record IsOver (broken : Option ℕ) (ahead : Broadcast) : Type 0 where
-  pub none_left : ahead.records ≡ []
-  pub end : ahead.broken ≡ broken
 
 -- the source failed, where no whole record had come and was not taken
 pub record IsUnread (holds : Bool) (bytes left_now : Option (List ℕ)) : Type 0 where
@@ -68,14 +59,14 @@ IsNext holds before after left_now lines new (Err _) = ⊥
 -- where what is ahead is told, these are the records that are shown of it and the place where it is broken
 abbrev pub IsShownAhead : Option Broadcast → List Record → Option ℕ → Type 0
 IsShownAhead None records broken = ⊤
-IsShownAhead (Some ahead) records broken = (records ≡ take records_max ahead.records)
-    × (broken ≡ (if nat_lt (length ahead.records) records_max then ahead.broken else None))
+IsShownAhead (Some ahead) records broken = (records ≡ take records_most ahead.records)
+    × (broken ≡ (if nat_lt (length ahead.records) records_most then ahead.broken else None))
 
 -- of what was ahead this was shown, when a status came
 pub record ShowsAhead (ahead : Ahead) (left_now before after : Option (List ℕ)) (result : Status) : Type 0 where
   pub records : List Record
   pub broken : Option ℕ
-  pub within : length records ≤ records_max
+  pub within : length records ≤ records_most
   pub of : IsShownAhead ahead.broadcast records broken
   pub printed : Leaves result records broken ahead.bytes left_now before after
 
@@ -97,7 +88,7 @@ pub record IsReadSoFar (number : ℕ) (ahead now : Ahead) (lines : List ℕ) (be
 -- all records that are shown were taken, and their lines were printed or wait
 pub record IsReadWhole (ahead : Ahead) (broken : Option ℕ) (lines : List ℕ) (before after : Option (List ℕ)) : Type 0 where
   pub records : List Record
-  pub within : length records ≤ records_max
+  pub within : length records ≤ records_most
   pub of : IsShownAhead ahead.broadcast records broken
   pub gathered : IsGathered records lines before after
 

@@ -1,6 +1,6 @@
 ghost use Rattle.std.specs.Prelude.{◌≡◌, ◌≤◌, ◌↔◌, IsTrue, map, string_bytes};
 ghost use Rattle.mb_base.specs.Outside.{Rose};
-ghost use Rattle.mb_base.specs.declared.outcome.Status.TheVariants as status;
+ghost use Rattle.mb_base.specs.Status.TheVariants as status;
 ghost use Rattle.mb_program.specs.Printing.{Refuses};
 ghost use Rattle.mbms_tab.specs.Forms.{show_arguments, HasNoForm};
 ghost use Rattle.mbms_tab.specs.Show.{Shows};

@@ -1,6 +1,6 @@
 ghost use Rattle.std.specs.Prelude.{◌≡◌, string_bytes};
 ghost use Rattle.mb_base.specs.TraceReader.{holds_record};
-ghost use Rattle.mb_base.specs.declared.outcome.Status.TheVariants as status;
+ghost use Rattle.mb_base.specs.Status.TheVariants as status;
 ghost use Rattle.mb_program.specs.Printing.{CountsFaults};
 ghost use Rattle.mbms_tab.specs.Steps.{Finishes, PrintsUnless};
 

@@ -1,0 +1,4 @@
+pub mod Plan
+pub mod InMemory
+pub mod ExchangeLog
+pub mod MemLinks

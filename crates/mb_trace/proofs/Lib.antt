@@ -1,0 +1,4 @@
+pub mod NumberLemmas
+pub mod TraceLemmas
+pub mod BufferLemmas
+pub mod TraceLaws

@@ -1,0 +1,4 @@
+pub mod Number
+pub mod Trace
+pub mod RecordBuffer
+pub mod TraceReader
