@@ -2,12 +2,11 @@
 use Rattle.std.proofs.Common.{◌≡◌, ℕ, ◌≤◌, ◌<◌, ◌+◌, List, [], ◌∷◌, ◌++◌, length, length-append, max, ◌||◌, true, false, fold, Option, Some, None, Result, Ok, Err, arith, refl, ◌∙◌, ap, subst}
 use Rattle.std.specs.List.{AllByRecursion}
 use Rattle.mb_base.specs.Outside.{Becomes, Rose}
-use Rattle.mb_base.specs.Broadcast.{Record, Broadcast, IsPast}
-use Rattle.mb_base.specs.declared.outcome.Status.{Status}
-use Rattle.mb_base.specs.declared.outcome.Status.TheVariants as status
+use Rattle.mb_base.specs.Broadcast.{Record, Broadcast, IsPast, Takes}
+use Rattle.mb_base.specs.Status.{Status}
+use Rattle.mb_base.specs.Status.TheVariants as status
 use Rattle.mb_rx.specs.declared.words.RxWords.{RxWords}
 use Rattle.mb_rx.specs.declared.cause.Cause.TheVariants as cause
-use Rattle.mb_rx.specs.declared.cause.TheConstants.{DATAGRAMS_MAX}
 use Rattle.mb_rx.specs.declared.cause.Ending.{Ending}
 use Rattle.mb_rx.specs.declared.cause.Ending.TheVariants.{EndsBy, BreaksAt}
 use Rattle.mb_alc.specs.Packet.{Packet, packet_of}
@@ -16,7 +15,7 @@ use Rattle.mb_rx.specs.declared.drops.Reason.TheVariants as reason
 use Rattle.mb_rx.specs.Receiver.{Receiver, Stepped, no_text, drop_for, closes, hear_packet, hear_datagram}
 use Rattle.mb_rx.specs.Run.{Session, after_record, session}
 use Rattle.mb_rx.proofs.Growth.{session-append}
-use Rattle.mb_rx.specs.Receive.{ClosesBy, is_closed, Outputs, Takes, IsEnding, IsEnded, IsBroken, IsRun, IsUncounted, IsWholeTrace, IsCutTrace, Completes, FindsBroken}
+use Rattle.mb_rx.specs.Receive.{ClosesBy, is_closed, datagrams_most, Outputs, IsEnding, IsEnded, IsBroken, IsRun, IsUncounted, IsWholeTrace, IsCutTrace, Completes, FindsBroken}
 
 -- an air that is not broken does not break
 unbroken : (words : RxWords) (records : List Record) (ending : Option Ending) (old : Broadcast) (air : Option Broadcast) → old.broken ≡ None
@@ -72,7 +71,7 @@ stays-closed words xs ys closed =
 
 -- a session that listens up to where the air breaks does not end before
 not_ended : (words : RxWords) (records : List Record) (ending : Option Ending) (old : Broadcast) (air : Option Broadcast) (place : ℕ) → old.broken ≡ Some place
-    → length old.records < DATAGRAMS_MAX → AllByRecursion (λ heard. heard.at ≤ words.until) old.records
+    → length old.records < datagrams_most → AllByRecursion (λ heard. heard.at ≤ words.until) old.records
     → is_closed words old.records ≡ false → ClosesBy ending (is_closed words records)
     → Becomes (Some old) air (Takes records) → Becomes (Some old) air (λ _ now. IsEnding words records ending now) → IsEnded ending → ⊥
 not_ended words records None old air place broken few in_time still closes taken ends ended = ended
@@ -88,7 +87,7 @@ not_ended words records (Some (EndsBy cause.Closed)) old (Some now) place broken
     let closed : is_closed words old.records ≡ true = ap (λ (b : Broadcast). is_closed words b.records) taken ∙ stays-closed words records now.records closes in
     cc
 not_ended words records (Some (EndsBy cause.Limit)) old (Some now) place broken few in_time still closes taken ends ended =
-    most DATAGRAMS_MAX records now.records ends (subst (λ (b : Broadcast). length b.records < DATAGRAMS_MAX) taken few)
+    most datagrams_most records now.records ends (subst (λ (b : Broadcast). length b.records < datagrams_most) taken few)
 
 ended_whole : (words : RxWords) (a b : Option Broadcast) (x y : Outputs) (result : Status) (r : IsRun words a b x y result)
     → IsCutTrace words a → IsEnded r.ending → ⊥

@@ -4,7 +4,7 @@ use Rattle.std.proofs.lemmas.List.Sums.{fold-append}
 use Rattle.mb_base.specs.Broadcast.{Record}
 use Rattle.mb_rx.specs.Receiver.{fresh, step}
 use Rattle.mb_rx.specs.Run.{Event, Line, Known, Session, after_record, session, text_events, hand_out_events, end_events, events_of, Extends}
-use Rattle.mb_rx.specs.Lines as line
+use Rattle.mb_program.specs.Lines as program
 use Rattle.mb_rx.specs.declared.cause.Cause.{Cause}
 use Rattle.mb_rx.specs.declared.words.RxWords.{RxWords}
 use Rattle.mb_rx.specs.declared.cause.Ending.{Ending}
@@ -75,11 +75,11 @@ run_grows known more x = grows_by known more x known.cause refl
 abbrev pub closing_events : RxWords → List Record → Option Ending → List Event
 closing_events words records None = end_events (known_of words records None) (session words.tsi records).receiver None
 closing_events words records (Some (EndsBy cause)) = end_events (known_of words records (Some cause)) (session words.tsi records).receiver (Some cause)
-closing_events words records (Some (BreaksAt place)) = Line (line.broken place) ∷ []
+closing_events words records (Some (BreaksAt place)) = Line (program.broken place) ∷ []
 
 -- the events of such a run, whichever way the session goes
 pub events_by-session : (words : RxWords) (records : List Record) (ending : Option Ending)
     → events_by words records ending ≡ (session words.tsi records).events ++ closing_events words records ending
 events_by-session words records None = refl
 events_by-session words records (Some (EndsBy cause)) = refl
-events_by-session words records (Some (BreaksAt place)) = ap (λ events. events ++ Line (line.broken place) ∷ []) (append-nil (session words.tsi records).events)
+events_by-session words records (Some (BreaksAt place)) = ap (λ events. events ++ Line (program.broken place) ∷ []) (append-nil (session words.tsi records).events)

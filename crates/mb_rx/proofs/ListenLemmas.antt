@@ -3,19 +3,18 @@
 use Rattle.std.proofs.Common.{◌≡◌, ℕ, ◌<◌, ◌≤◌, ◌+◌, false, length, length-append, List, [], ◌∷◌, ◌++◌, fold, take, Option, Some, None, Result, Ok, Err, refl, sym, ap, subst, ◌∙◌, append_assoc, append-nil, arith}
 use Rattle.std.proofs.lemmas.List.Sums.{fold-append}
 use Rattle.mb_base.specs.Outside.{Becomes}
-use Rattle.mb_base.specs.Broadcast.{Record, Broadcast, Hears, IsPast}
-use Rattle.mb_base.specs.declared.air.AirEvent.TheVariants.{Datagram, Quiet, Ended, Broken, Failed}
-use Rattle.mb_base.specs.declared.outcome.Status.{Status}
-use Rattle.mb_base.specs.declared.outcome.Status.TheVariants as status
+use Rattle.mb_base.specs.Broadcast.{Record, Broadcast, Hears, IsPast, Takes, IsOver}
+use Rattle.mb_base.specs.AirEvent.TheVariants.{Datagram, Quiet, Ended, Broken, Failed}
+use Rattle.mb_base.specs.Status.{Status}
+use Rattle.mb_base.specs.Status.TheVariants as status
 use Rattle.mb_rx.specs.declared.words.RxWords.{RxWords}
 use Rattle.mb_rx.specs.declared.session.Listened.{Listened}
-use Rattle.mb_rx.specs.declared.cause.TheConstants.{DATAGRAMS_MAX}
 use Rattle.mb_rx.specs.declared.cause.Ending.{Ending}
 use Rattle.mb_rx.specs.declared.cause.Ending.TheVariants.{EndsBy, BreaksAt}
 use Rattle.mb_rx.specs.declared.cause.Cause.TheVariants as cause
 use Rattle.mb_rx.specs.Receiver.{Receiver}
 use Rattle.mb_rx.specs.Run.{Event, Session, after_record}
-use Rattle.mb_rx.specs.Receive.{Outputs, Makes, Stops, Takes, IsEnding, IsOver, ClosesBy}
+use Rattle.mb_rx.specs.Receive.{Outputs, Makes, Stops, AreInTime, IsEnding, ClosesBy, datagrams_most}
 use Rattle.mb_rx.specs.Listening as listening
 use Rattle.mb_rx.specs.Listening.{Plays, after_records, TakenOpen}
 use Rattle.mb_rx.proofs.Making.{Makes-nil, Makes-trans, Stops-after, Stops-memory}
@@ -125,6 +124,12 @@ open-next tsi r [] one still = tt
 open-next tsi r (heard ∷ []) one still = (still, tt)
 open-next tsi r (heard ∷ next ∷ records) one still = absurd (omega arith)
 
+-- ---- records in time
+
+in_time-append : (words : RxWords) (xs ys : List Record) → AreInTime words xs → AreInTime words ys → AreInTime words (xs ++ ys)
+in_time-append words [] ys p q = q
+in_time-append words (heard ∷ xs) ys p q = (p.0, in_time-append words xs ys p.1 q)
+
 -- ---- what was made, or stopped
 
 pub Plays-stopped : (A : Type 0) (reason : Status) (a b : Outputs) (events : List Event) → Stops reason a b events → Plays {A = A} a b events (Err reason)
@@ -140,14 +145,15 @@ stops-no_air reason a b events is s = let at : Stops status.AirFault a b events 
 -- a datagram was taken, and a status stopped its events
 pub hears-stopped : (words : RxWords) (air_before air_after : Option Broadcast) (old new : Receiver) (before after : Outputs)
     (heard : Record) (reason answer : Status) (result : Result (Option Ending) Status) → Becomes air_before air_after (Takes (heard ∷ []))
-    → result ≡ Err answer → answer ≡ reason → old.closed ≡ false → Stops reason before after (after_record words.tsi (record { receiver = old; events = [] }) heard).events
+    → heard.at ≤ words.until → result ≡ Err answer → answer ≡ reason → old.closed ≡ false → Stops reason before after (after_record words.tsi (record { receiver = old; events = [] }) heard).events
     → listening.Hears words air_before air_after old new before after result
-hears-stopped words air_before air_after old new before after heard reason answer result taken is same still stopped =
+hears-stopped words air_before air_after old new before after heard reason answer result taken in_time is same still stopped =
     subst (λ (x : Result (Option Ending) Status). listening.Hears words air_before air_after old new before after x) (sym (is ∙ ap Err same))
     (record {
       records = heard ∷ [];
       taken = taken;
       one = omega arith;
+      in_time = (in_time, tt);
       asked = still;
       failed = λ air. absurd (stops-no_air reason before after _ air stopped);
       heard = tt;
@@ -162,6 +168,7 @@ hears-ending words air_before air_after old outputs ending closed tells = record
   records = [];
   taken = tells.0;
   one = omega arith;
+  in_time = tt;
   asked = closed;
   failed = tt;
   heard = (refl, refl, tells.1);
@@ -188,7 +195,7 @@ Plays-after A B status.NoJ a b c xs ys m p = Stops-after status.NoJ a b c xs ys 
 
 pub so_far-none : (words : RxWords) (air : Option Broadcast) (old : Receiver) (outputs : Outputs) → listening.IsHeardSoFar words 0 air air old old outputs outputs
 so_far-none words air old outputs =
-    record { records = []; taken = Takes-none air; number = refl; while_open = tt; heard = refl; made = Makes-nil outputs }
+    record { records = []; taken = Takes-none air; number = refl; in_time = tt; while_open = tt; heard = refl; made = Makes-nil outputs }
 
 -- where the session goes on, a datagram was heard
 pub heard_on : (words : RxWords) (b c : Option Broadcast) (old new : Receiver) (y z : Outputs) (ending : Option Ending) → ending ≡ None
@@ -205,13 +212,14 @@ so_far-next words n a b c old mid new x y z s next =
       records = s.records ++ h.records;
       taken = Takes-trans a b c s.records h.records s.taken h.taken;
       number = length-append s.records h.records ∙ omega (arith, s.number, h.heard.0);
+      in_time = in_time-append words s.records h.records s.in_time h.in_time;
       while_open = TakenOpen-append words.tsi old s.records h.records s.while_open (open-next words.tsi before.receiver h.records h.one h.asked);
       heard = h.heard.1 ∙ sym (ap (λ (r : Session). r.receiver) joined);
       made = subst (λ (es : List Event). Makes x z es) (sym (ap (λ (r : Session). r.events) joined)) (Makes-trans x y z before.events _ s.made h.played);
     }
 
 pub listens-stopped : (words : RxWords) (n : ℕ) (a b c : Option Broadcast) (old mid new : Receiver) (x y z : Outputs)
-    (reason answer : Status) (result : Result Listened Status) → listening.IsHeardSoFar words n a b old mid x y → n < DATAGRAMS_MAX
+    (reason answer : Status) (result : Result Listened Status) → listening.IsHeardSoFar words n a b old mid x y → n < datagrams_most
     → result ≡ Err answer → answer ≡ reason → listening.Hears words b c mid new y z (Err reason) → listening.Listens words a c old new x z result
 listens-stopped words n a b c old mid new x y z reason answer result s room is same next =
     let before = after_records words.tsi old s.records in
@@ -221,6 +229,7 @@ listens-stopped words n a b c old mid new x y z reason answer result s room is s
       records = s.records ++ h.records;
       taken = Takes-trans a b c s.records h.records s.taken h.taken;
       within = let len : length (s.records ++ h.records) ≡ length s.records + length h.records = length-append s.records h.records in omega (arith, s.number, h.one, room, len);
+      in_time = in_time-append words s.records h.records s.in_time h.in_time;
       while_open = TakenOpen-append words.tsi old s.records h.records s.while_open (open-next words.tsi before.receiver h.records h.one h.asked);
       failed = λ air. ap (λ (r : Session). r.receiver.closed) joined ∙ h.failed air;
       heard = tt;
@@ -232,4 +241,4 @@ pub listens-memory : (words : RxWords) (air : Option Broadcast) (old : Receiver)
     → result ≡ Err answer → answer ≡ status.Memory → listening.Listens words air air old old outputs outputs result
 listens-memory words air old outputs answer result is same =
     subst (λ (r : Result Listened Status). listening.Listens words air air old old outputs outputs r) (sym (is ∙ ap Err same))
-    (record { records = []; taken = Takes-none air; within = omega arith; while_open = tt; failed = λ air. absurd cc; heard = tt; played = Stops-memory outputs [] })
+    (record { records = []; taken = Takes-none air; within = omega arith; in_time = tt; while_open = tt; failed = λ air. absurd cc; heard = tt; played = Stops-memory outputs [] })

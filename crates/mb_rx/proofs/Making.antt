@@ -1,13 +1,15 @@
 -- How parts of a run join: what is made after what was made, and what stops after that.
-use Rattle.std.proofs.Common.{◌≡◌, length, ℕ, ◌≤◌, List, [], ◌∷◌, ◌++◌, Some, Result, Ok, Err, refl, sym, ap, ◌∙◌, subst, append_assoc, arith}
-use Rattle.mb_base.specs.Outside.{Rose}
-use Rattle.mb_base.specs.declared.outcome.Status.{Status}
-use Rattle.mb_base.specs.declared.outcome.Status.TheVariants as status
+use Rattle.std.proofs.Common.{◌≡◌, length, ℕ, ◌≤◌, List, [], ◌∷◌, ◌++◌, Option, Some, append-nil, Result, Ok, Err, refl, sym, ap, ◌∙◌, subst, append_assoc, arith}
+use Rattle.mb_base.specs.Outside.{Grows, Rose}
+use Rattle.mb_base.specs.Files.{File}
+use Rattle.mb_base.specs.Status.{Status}
+use Rattle.mb_base.specs.Status.TheVariants as status
 use Rattle.mb_base.proofs.Content.{Grows-nil, Grows-trans}
 use Rattle.mb_rx.specs.Run.{Event, Put, Line, Ask, put_events}
 use Rattle.mb_rx.specs.Receiver.{Life}
 use Rattle.mb_rx.specs.Lines as line
-use Rattle.mb_rx.specs.Receive.{puts_in, text_in, Outputs, Makes, Stops, StopsAt, IsPutNext, IsCutLine, Does}
+use Rattle.mb_rx.specs.Receive.{puts_in, text_in, Outputs, Makes, Stops, StopsAt, IsPutNext, IsCutLine, Does, outputs}
+use Rattle.mb_program.specs.Printing as printing
 
 pub puts_in-append : (xs ys : List Event) → puts_in (xs ++ ys) ≡ puts_in xs ++ puts_in ys
 puts_in-append [] ys = refl
@@ -152,3 +154,26 @@ Does-events a b xs ys result e d = subst (λ (es : List Event). Does a b es resu
 pub Does-line : {A : Type 0} (a b : Outputs) (text line : List ℕ) (result : Result A Status) → text ≡ line
     → Does a b (Line text ∷ []) result → Does a b (Line line ∷ []) result
 Does-line a b text line result e d = subst (λ (bytes : List ℕ). Does a b (Line bytes ∷ []) result) e d
+
+-- what a line that is printed, or cut, leaves
+pub Does-printed : (files : Option (List File)) (faults : ℕ) (text : List ℕ) (old new : Option (List ℕ)) (before after : ℕ) (result : Result (Unit {0}) Status)
+    → printing.Prints text old new result → printing.CountsFaults status.OutFault before after result
+    → Does (outputs files faults old before) (outputs files faults new after) (Line text ∷ []) result
+Does-printed files faults text old new before after (Ok x) printed cause = record {
+  put = Grows-nil files;
+  printed = subst (λ (t : List ℕ). Grows old new t) (sym (append-nil text)) printed;
+  store_later = omega arith;
+  sink_later = cause.later;
+}
+Does-printed files faults text old new before after (Err status.OutFault) printed cause = record {
+  made = [];
+  later = Line text ∷ [];
+  cut = printed.printed;
+  split = refl;
+  stop = ((printed.rest, printed.split), cause.failed refl);
+  put = Grows-nil files;
+  printed = printed.grown;
+  store_later = omega arith;
+  sink_later = cause.later;
+}
+Does-printed files faults text old new before after (Err _) printed cause = absurd printed

@@ -1,20 +1,22 @@
 -- How what was listened to, and the lines after it, make a run.
 use Rattle.std.proofs.Common.{◌≡◌, ℕ, ◌≤◌, Bool, true, false, cond, List, [], ◌∷◌, ◌++◌, length, Option, Some, None, Result, Ok, Err, refl, sym, ap, subst, ◌∙◌, append-nil, arith}
 use Rattle.std.specs.List.{list_all}
-use Rattle.mb_base.specs.Outside.{Becomes, Stays, Rose}
-use Rattle.mb_base.specs.Broadcast.{Record, Broadcast}
-use Rattle.mb_base.specs.declared.outcome.Status.{Status}
-use Rattle.mb_base.specs.declared.outcome.Status.TheVariants as status
+use Rattle.mb_base.specs.Outside.{Becomes, Stays, Grows, Rose}
+use Rattle.mb_base.specs.Files.{File}
+use Rattle.mb_base.proofs.Content.{Grows-nil}
+use Rattle.mb_base.specs.Broadcast.{Record, Broadcast, Takes}
+use Rattle.mb_base.specs.Status.{Status}
+use Rattle.mb_base.specs.Status.TheVariants as status
 use Rattle.mb_rx.specs.declared.words.RxWords.{RxWords}
 use Rattle.mb_rx.specs.declared.cause.Cause.{Cause}
 use Rattle.mb_rx.specs.declared.cause.Ending.{Ending}
 use Rattle.mb_rx.specs.declared.cause.Ending.TheVariants.{EndsBy, BreaksAt}
-use Rattle.mb_rx.specs.declared.cause.TheConstants.{DATAGRAMS_MAX}
 use Rattle.mb_rx.specs.declared.session.Listened.{Listened}
-use Rattle.mb_rx.specs.Lines as line
+use Rattle.mb_program.specs.Lines as program
+use Rattle.mb_program.specs.Printing as printing
 use Rattle.mb_rx.specs.Receiver.{Receiver, fresh}
 use Rattle.mb_rx.specs.Run.{Event, Put, Line, Ask, Session, session, end_events, is_complete}
-use Rattle.mb_rx.specs.Receive.{IsPutNext, Outputs, Makes, Stops, Takes, IsEnding, IsRun, Leaves, Receives, Refuses, events_by, known_of, ClosesBy, is_closed, TakesWhileOpen}
+use Rattle.mb_rx.specs.Receive.{Outputs, outputs, Makes, Stops, IsEnding, IsRun, Leaves, Receives, Refuses, events_by, known_of, ClosesBy, is_closed, TakesWhileOpen, AreInTime, datagrams_most}
 use Rattle.mb_rx.specs.Listening.{Plays, Listens, after_records, TakenOpen}
 use Rattle.mb_rx.specs.Outcome.{Runs}
 use Rattle.mb_rx.proofs.Making.{Makes-trans, Stops-after, Stops-memory}
@@ -38,8 +40,8 @@ events_by-ended words records cause =
     ap (λ (s : Session). s.events ++ end_events (known_of words records (Some cause)) s.receiver (Some cause)) (sym (session-is words.tsi records))
 
 events_by-broken : (words : RxWords) (records : List Record) (place : ℕ)
-    → (after_records words.tsi fresh records).events ++ Line (line.broken place) ∷ [] ≡ events_by words records (Some (BreaksAt place))
-events_by-broken words records place = ap (λ (es : List Event). es ++ Line (line.broken place) ∷ []) (events_by-none words records)
+    → (after_records words.tsi fresh records).events ++ Line (program.broken place) ∷ [] ≡ events_by words records (Some (BreaksAt place))
+events_by-broken words records place = ap (λ (es : List Event). es ++ Line (program.broken place) ∷ []) (events_by-none words records)
 
 -- whether the sender closed the session, by what its records make of a fresh receiver
 closed-is : (words : RxWords) (records : List Record) → is_closed words records ≡ (after_records words.tsi fresh records).receiver.closed
@@ -55,13 +57,14 @@ taken_open words records still before after heard split =
 
 -- a run, from what it left: the laws of honest datagrams and of ready files hold of every run
 run_of : (words : RxWords) (a b : Option Broadcast) (x y : Outputs) (result : Status) (records : List Record) (ending : Option Ending)
-    → Becomes a b (Takes records) → length records ≤ DATAGRAMS_MAX → TakenOpen words.tsi fresh records → ClosesBy ending (is_closed words records)
+    → Becomes a b (Takes records) → length records ≤ datagrams_most → AreInTime words records → TakenOpen words.tsi fresh records → ClosesBy ending (is_closed words records)
     → Becomes a b (λ _ air. IsEnding words records ending air)
     → Leaves result words records ending x y → IsRun words a b x y result
-run_of words a b x y result records ending taken within still closes ends left = record {
+run_of words a b x y result records ending taken within in_time still closes ends left = record {
   records = records;
   taken = taken;
   within = within;
+  in_time = in_time;
   while_open = taken_open words records still;
   ending = ending;
   closes = closes;
@@ -105,7 +108,7 @@ pub run-unheard : (words : RxWords) (a b : Option Broadcast) (new : Receiver) (x
     → result ≡ Err answer → answer ≡ reason → Listens words a b fresh new x y (Err reason) → Runs words a b x y result
 run-unheard words a b new x y reason answer result is same l =
     subst (λ (r : Result Status Status). Runs words a b x y r) (sym (is ∙ ap Err same))
-    (run_of words a b x y reason l.records None l.taken l.within l.while_open tt (goes_on words l.records a b l.taken)
+    (run_of words a b x y reason l.records None l.taken l.within l.in_time l.while_open tt (goes_on words l.records a b l.taken)
     (Leaves-played Listened reason words l.records x y (λ air. closed-is words l.records ∙ l.failed air) (subst (λ (es : List Event). Plays {A = Listened} x y es (Err reason)) (events_by-none words l.records) l.played)))
 
 -- the session ended, and its last lines were printed, or a status stopped them
@@ -126,7 +129,7 @@ run-ended words a b new x y z listened cause all result by l printed complete is
     let lives : is_complete (session words.tsi records) ≡ all =
     ap (λ (s : Session). is_complete s) (session-is words.tsi records) ∙ (ap (λ (r : Receiver). list_all (λ life. life.done) r.lives) (sym l.heard.0) ∙ sym complete) in
     subst (λ (s : Status). IsRun words a b x z s) (sym is)
-    (run_of words a b x z (cond all status.Done status.Incomplete) records (Some (EndsBy cause)) l.taken l.within l.while_open closes ended (finishes all words records cause x z made lives))
+    (run_of words a b x z (cond all status.Done status.Incomplete) records (Some (EndsBy cause)) l.taken l.within l.in_time l.while_open closes ended (finishes all words records cause x z made lives))
 
 pub run-unended : (words : RxWords) (a b : Option Broadcast) (new : Receiver) (x y z : Outputs) (listened : Listened) (cause : Cause) (reason answer : Status) (result : Result Status Status)
     → listened.ending ≡ EndsBy cause → Listens words a b fresh new x y (Ok listened)
@@ -142,11 +145,11 @@ run-unended words a b new x y z listened cause reason answer result by l printed
     subst (λ (es : List Event). Stops reason x z es) (events_by-ended words records cause)
     (Stops-after reason x y z _ _ l.played (subst (λ (r : Receiver). Stops reason y z (end_events (known_of words records (Some cause)) r (Some cause))) l.heard.0 (printed records (sym l.heard.1)))) in
     subst (λ (r : Result Status Status). Runs words a b x z r) (sym (is ∙ ap Err same))
-    (run_of words a b x z reason records (Some (EndsBy cause)) l.taken l.within l.while_open closes ended (Leaves-stopped reason words records (Some (EndsBy cause)) x z stopped))
+    (run_of words a b x z reason records (Some (EndsBy cause)) l.taken l.within l.in_time l.while_open closes ended (Leaves-stopped reason words records (Some (EndsBy cause)) x z stopped))
 
 -- the trace broke, and the line that says so was printed, or a status stopped it
 pub run-broken : (words : RxWords) (a b : Option Broadcast) (new : Receiver) (x y z : Outputs) (listened : Listened) (place : ℕ)
-    → listened.ending ≡ BreaksAt place → Listens words a b fresh new x y (Ok listened) → Makes y z (Line (line.broken place) ∷ [])
+    → listened.ending ≡ BreaksAt place → Listens words a b fresh new x y (Ok listened) → Makes y z (Line (program.broken place) ∷ [])
     → IsRun words a b x z status.TraceBroken
 run-broken words a b new x y z listened place by l printed =
     let records = l.records in
@@ -156,10 +159,10 @@ run-broken words a b new x y z listened place by l printed =
     subst (λ (e : Ending). Becomes a b (λ _ air. IsEnding words records (Some e) air)) by l.heard.3 in
     let made : Makes x z (events_by words records (Some (BreaksAt place))) =
     subst (λ (es : List Event). Makes x z es) (events_by-broken words records place) (Makes-trans x y z _ _ l.played printed) in
-    run_of words a b x z status.TraceBroken records (Some (BreaksAt place)) l.taken l.within l.while_open closes broke (tt, made)
+    run_of words a b x z status.TraceBroken records (Some (BreaksAt place)) l.taken l.within l.in_time l.while_open closes broke (tt, made)
 
 pub run-unbroken : (words : RxWords) (a b : Option Broadcast) (new : Receiver) (x y z : Outputs) (listened : Listened) (place : ℕ) (reason answer : Status) (result : Result Status Status)
-    → listened.ending ≡ BreaksAt place → Listens words a b fresh new x y (Ok listened) → Stops reason y z (Line (line.broken place) ∷ [])
+    → listened.ending ≡ BreaksAt place → Listens words a b fresh new x y (Ok listened) → Stops reason y z (Line (program.broken place) ∷ [])
     → result ≡ Err answer → answer ≡ reason → Runs words a b x z result
 run-unbroken words a b new x y z listened place reason answer result by l stopped is same =
     let records = l.records in
@@ -170,7 +173,7 @@ run-unbroken words a b new x y z listened place reason answer result by l stoppe
     let stop : Stops reason x z (events_by words records (Some (BreaksAt place))) =
     subst (λ (es : List Event). Stops reason x z es) (events_by-broken words records place) (Stops-after reason x y z _ _ l.played stopped) in
     subst (λ (r : Result Status Status). Runs words a b x z r) (sym (is ∙ ap Err same))
-    (run_of words a b x z reason records (Some (BreaksAt place)) l.taken l.within l.while_open closes broke (Leaves-stopped reason words records (Some (BreaksAt place)) x z stop))
+    (run_of words a b x z reason records (Some (BreaksAt place)) l.taken l.within l.in_time l.while_open closes broke (Leaves-stopped reason words records (Some (BreaksAt place)) x z stop))
 
 pub from_fresh : (words : RxWords) (a b : Option Broadcast) (old new : Receiver) (x y : Outputs) (result : Result Listened Status) → old ≡ fresh
     → Listens words a b old new x y result → Listens words a b fresh new x y result
@@ -190,44 +193,43 @@ Stays-same : (air : Option Broadcast) → Stays air air
 Stays-same None = tt
 Stays-same (Some air) = refl
 
--- a line alone has no file to put
-no_put_left : (later : List Event) → [] ≡ later → IsPutNext later → ⊥
-no_put_left later e next = subst (λ (es : List Event). IsPutNext es) (sym e) next
+-- what refusing leaves beside a store that stays as it is
+pub Refuses-as : (files : Option (List File)) (faults : ℕ) (old new : Option (List ℕ)) (before after : ℕ) (result : Status)
+    → printing.Refuses result old new → before ≤ after → (result ≡ status.OutFault → Rose before after)
+    → Refuses result (outputs files faults old before) (outputs files faults new after)
+Refuses-as files faults old new before after status.Usage printed later fault = record {
+  put = Grows-nil files;
+  printed = subst (λ (t : List ℕ). Grows old new t) (sym (append-nil program.usage)) printed;
+  store_later = omega arith;
+  sink_later = later;
+}
+Refuses-as files faults old new before after status.OutFault printed later fault = record {
+  made = [];
+  later = Line program.usage ∷ [];
+  cut = printed.printed;
+  split = refl;
+  stop = ((printed.rest, printed.split), fault refl);
+  put = Grows-nil files;
+  printed = printed.grown;
+  store_later = omega arith;
+  sink_later = later;
+}
+Refuses-as files faults old new before after _ printed later fault = absurd printed
 
-no_put : (made later : List Event) (text : List ℕ) → Line text ∷ [] ≡ made ++ later → IsPutNext later → ⊥
-no_put [] [] text e next = next
-no_put [] (Put file ∷ later) text e next = cc
-no_put [] (Line other ∷ later) text e next = next
-no_put [] (Ask server request ∷ later) text e next = next
-no_put (first ∷ []) later text e next = no_put_left later (cc) next
-no_put (first ∷ second ∷ made) later text e next = cc
+-- refusing touches the sink alone
+pub refuses-no_air : (old new : Option (List ℕ)) (result : Status) → printing.Refuses result old new → result ≡ status.AirFault → ⊥
+refuses-no_air old new result p e = let q : printing.Refuses status.AirFault old new = subst (λ (s : Status). printing.Refuses s old new) e p in q
 
-Refuses-stopped : (reason : Status) (x y : Outputs) → Stops reason x y (Line line.usage ∷ []) → Refuses reason x y
-Refuses-stopped status.StoreFault x y s = no_put s.made s.later line.usage s.split s.stop.0
-Refuses-stopped status.OutFault x y s = s
-Refuses-stopped status.Memory x y s = s
-Refuses-stopped _ x y s = absurd s.stop
+pub refuses-no_store : (old new : Option (List ℕ)) (result : Status) → printing.Refuses result old new → result ≡ status.StoreFault → ⊥
+refuses-no_store old new result p e = let q : printing.Refuses status.StoreFault old new = subst (λ (s : Status). printing.Refuses s old new) e p in q
 
 pub refused_words : (words : Option RxWords) (air : Option Broadcast) (x y : Outputs) (result : Status) → words ≡ None → Refuses result x y → Receives words air air x y result
 refused_words words air x y result none refused =
     subst (λ (w : Option RxWords). Receives w air air x y result) (sym none) (Stays-same air, refused)
 
-pub unprinted : (words : Option RxWords) (air : Option Broadcast) (x y : Outputs) (reason : Status) → words ≡ None → Stops reason x y (Line line.usage ∷ []) → Receives words air air x y reason
-unprinted words air x y reason none stopped = refused_words words air x y reason none (Refuses-stopped reason x y stopped)
-
 pub no_memory : (words : Option RxWords) (air : Option Broadcast) (x : Outputs) → Receives words air air x x status.Memory
 no_memory None air x = (Stays-same air, Stops-memory x _)
-no_memory (Some words) air x = run_of words air air x x status.Memory [] None (Takes-none air) (omega arith) tt tt (goes_on words [] air air (Takes-none air)) (Stops-memory x _)
-
--- whose failure a stop is
-pub stop_of_store : (x y : Outputs) (events : List Event) (reason : Status) → reason ≡ status.StoreFault → Stops reason x y events → Rose x.store_faults y.store_faults
-stop_of_store x y events reason e stopped = let s : Stops status.StoreFault x y events = subst (λ (r : Status). Stops r x y events) e stopped in s.stop.2
-
-pub stop_of_sink : (x y : Outputs) (events : List Event) (reason : Status) → reason ≡ status.OutFault → Stops reason x y events → Rose x.sink_faults y.sink_faults
-stop_of_sink x y events reason e stopped = let s : Stops status.OutFault x y events = subst (λ (r : Status). Stops r x y events) e stopped in s.stop.1
-
-pub stop_of_air : (x y : Outputs) (events : List Event) (reason : Status) → reason ≡ status.AirFault → Stops reason x y events → ⊥
-stop_of_air x y events reason e stopped = let s : Stops status.AirFault x y events = subst (λ (r : Status). Stops r x y events) e stopped in s.stop
+no_memory (Some words) air x = run_of words air air x x status.Memory [] None (Takes-none air) (omega arith) tt tt tt (goes_on words [] air air (Takes-none air)) (Stops-memory x _)
 
 -- the faults of a run
 pub run_of_store : (words : RxWords) (a b : Option Broadcast) (x y : Outputs) (result : Status) → result ≡ status.StoreFault → IsRun words a b x y result → Rose x.store_faults y.store_faults

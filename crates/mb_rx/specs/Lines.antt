@@ -22,9 +22,6 @@ location_byte b =
 abbrev pub location_text : List ℕ → List ℕ
 location_text location = flat_map location_byte location
 
-abbrev pub usage : List ℕ
-usage = codes "usage\n"
-
 -- the entries that started and prolonged no life
 unfoldable pub others : Report → List ℕ
 others r = codes "conflicting " ++ (decimal r.conflicting ++ (codes " refused " ++ (decimal r.refused
@@ -51,9 +48,6 @@ bad_instance id fault = codes "fdt " ++ (decimal id ++ (codes " fault " ++ (deci
 
 abbrev pub stored : ℕ → ℕ → List ℕ → List ℕ
 stored toi len location = codes "stored " ++ (decimal toi ++ (codes " " ++ (decimal len ++ (codes " " ++ (location_text location ++ codes "\n")))))
-
-abbrev pub broken : ℕ → List ℕ
-broken place = codes "broken " ++ (decimal place ++ codes "\n")
 
 abbrev pub cause_word : Cause → List ℕ
 cause_word Quiet = codes "quiet"

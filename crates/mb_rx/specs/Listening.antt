@@ -1,16 +1,15 @@
 -- What listening to a session did, datagram by datagram and as a whole.
 use Rattle.std.specs.Prelude.{◌≡◌, ℕ, ◌≤◌, Bool, false, List, [], ◌∷◌, length, fold, Option, Some, None, Result, Ok, Err, ⊤}
 use Rattle.mb_base.specs.Outside.{Becomes}
-use Rattle.mb_base.specs.Broadcast.{Record, Broadcast}
-use Rattle.mb_base.specs.declared.outcome.Status.{Status}
-use Rattle.mb_base.specs.declared.outcome.Status.TheVariants as status
+use Rattle.mb_base.specs.Broadcast.{Record, Broadcast, Takes}
+use Rattle.mb_base.specs.Status.{Status}
+use Rattle.mb_base.specs.Status.TheVariants as status
 use Rattle.mb_rx.specs.declared.cause.Ending.{Ending}
-use Rattle.mb_rx.specs.declared.cause.TheConstants.{DATAGRAMS_MAX}
 use Rattle.mb_rx.specs.declared.session.Listened.{Listened}
 use Rattle.mb_rx.specs.declared.words.RxWords.{RxWords}
 use Rattle.mb_rx.specs.Receiver.{Receiver}
 use Rattle.mb_rx.specs.Run.{Session, Event, after_record}
-use Rattle.mb_rx.specs.Receive.{Outputs, Makes, Stops, Takes, IsEnding, ClosesBy}
+use Rattle.mb_rx.specs.Receive.{Outputs, Makes, Stops, AreInTime, IsEnding, ClosesBy, datagrams_most}
 
 -- What a part of a session makes: its events, or those up to where a status stops it. A failing air stops
 -- behind all of them.
@@ -51,6 +50,7 @@ pub record Hears (words : RxWords) (air_before air_after : Option Broadcast) (ol
   pub records : List Record
   pub taken : Becomes air_before air_after (Takes records)
   pub one : length records ≤ 1
+  pub in_time : AreInTime words records
   pub asked : AsksOpen old.closed result
   pub failed : FailsOpen (after_records words.tsi old records).receiver.closed result
   pub heard : IsNext words records air_before air_after (after_records words.tsi old records).receiver new result
@@ -66,7 +66,8 @@ pub record Listens (words : RxWords) (air_before air_after : Option Broadcast) (
     (result : Result Listened Status) : Type 0 where
   pub records : List Record
   pub taken : Becomes air_before air_after (Takes records)
-  pub within : length records ≤ DATAGRAMS_MAX
+  pub within : length records ≤ datagrams_most
+  pub in_time : AreInTime words records
   pub while_open : TakenOpen words.tsi old records
   pub failed : FailsOpen (after_records words.tsi old records).receiver.closed result
   pub heard : IsListened words records air_before air_after (after_records words.tsi old records).receiver new result
@@ -77,6 +78,7 @@ pub record IsHeardSoFar (words : RxWords) (datagrams : ℕ) (air_before air_afte
   pub records : List Record
   pub taken : Becomes air_before air_after (Takes records)
   pub number : length records ≡ datagrams
+  pub in_time : AreInTime words records
   pub while_open : TakenOpen words.tsi old records
   pub heard : new ≡ (after_records words.tsi old records).receiver
   pub made : Makes before after (after_records words.tsi old records).events

@@ -1,7 +1,7 @@
 -- How the run of good words ends, whether its last part succeeded or handed on a status.
 use Rattle.std.specs.Prelude.{Option, Result, Ok, Err}
 use Rattle.mb_base.specs.Broadcast.{Broadcast}
-use Rattle.mb_base.specs.declared.outcome.Status.{Status}
+use Rattle.mb_base.specs.Status.{Status}
 use Rattle.mb_rx.specs.declared.words.RxWords.{RxWords}
 use Rattle.mb_rx.specs.Receive.{Outputs, IsRun}
 

@@ -3,16 +3,15 @@ use Rattle.std.specs.Prelude.{◌≡◌, ℕ, ◌≤◌, ◌<◌, Bool, true, fa
 use Rattle.std.specs.List.{AllByRecursion}
 use Rattle.mb_base.specs.Outside.{Grows, Becomes, Stays, Rose}
 use Rattle.mb_base.specs.Files.{File}
-use Rattle.mb_base.specs.Broadcast.{Record, Broadcast, IsPast}
-use Rattle.mb_base.specs.declared.outcome.Status.{Status}
-use Rattle.mb_base.specs.declared.outcome.Status.TheVariants as status
+use Rattle.mb_base.specs.Broadcast.{Record, Broadcast, IsPast, Takes, IsOver}
+use Rattle.mb_base.specs.Status.{Status}
+use Rattle.mb_base.specs.Status.TheVariants as status
 use Rattle.mb_rx.specs.declared.cause.Cause.{Cause}
 use Rattle.mb_rx.specs.declared.cause.Cause.TheVariants.{Quiet, Ended, Closed, Limit}
 use Rattle.mb_rx.specs.declared.cause.Ending.{Ending}
 use Rattle.mb_rx.specs.declared.cause.Ending.TheVariants.{EndsBy, BreaksAt}
-use Rattle.mb_rx.specs.declared.cause.TheConstants.{DATAGRAMS_MAX}
 use Rattle.mb_rx.specs.declared.words.RxWords.{RxWords}
-use Rattle.mb_rx.specs.Lines as line
+use Rattle.mb_program.specs.Lines as program
 use Rattle.mb_rx.specs.Receiver.{Life, step, is_ready}
 use Rattle.mb_rx.specs.Run.{Event, Put, Line, Ask, Known, session, events_of, is_complete, file_of}
 use Rattle.mb_rx.specs.SentSet.{SentSet, IsHonest, IsSentFile}
@@ -90,10 +89,9 @@ Does before after events (Err reason) = Stops reason before after events
 
 -- How a session goes.
 
--- no record is left, and the trace is broken there, or it is not
-pub record IsOver (broken : Option ℕ) (air : Broadcast) : Type 0 where
-  pub none_left : air.records ≡ []
-  pub end : air.broken ≡ broken
+-- how many datagrams it takes at most
+abbrev pub datagrams_most : ℕ
+datagrams_most = 4294967295
 
 -- what the air has when a session ends so, or goes on
 abbrev pub IsEnding : RxWords → List Record → Option Ending → Broadcast → Type 0
@@ -101,7 +99,7 @@ IsEnding words records None air = ⊤
 IsEnding words records (Some (EndsBy Quiet)) air = IsPast words.until air.records
 IsEnding words records (Some (EndsBy Ended)) air = IsOver None air
 IsEnding words records (Some (EndsBy Closed)) air = ⊤
-IsEnding words records (Some (EndsBy Limit)) air = length records ≡ DATAGRAMS_MAX
+IsEnding words records (Some (EndsBy Limit)) air = length records ≡ datagrams_most
 IsEnding words records (Some (BreaksAt place)) air = IsOver (Some place) air
 
 -- the sender closed the session with these records
@@ -121,9 +119,9 @@ ClosesBy (Some (BreaksAt place)) closed = closed ≡ false
 abbrev pub TakesWhileOpen : RxWords → List Record → Type 0
 TakesWhileOpen words records = (before after : List Record) (heard : Record) → records ≡ before ++ heard ∷ after → is_closed words before ≡ false
 
--- these records were taken, and nothing else changed
-abbrev pub Takes : List Record → Broadcast → Broadcast → Type 0
-Takes records old new = old ≡ record new { records = records ++ new.records }
+-- none is later than the last moment to listen
+abbrev pub AreInTime : RxWords → List Record → Type 0
+AreInTime words records = AllByRecursion (λ heard. heard.at ≤ words.until) records
 
 -- what is known of a run whose words name no tables and no server
 abbrev pub known_of : RxWords → List Record → Option Cause → Known
@@ -133,7 +131,7 @@ known_of words records cause = record { words = words; tables = []; records = re
 abbrev pub events_by : RxWords → List Record → Option Ending → List Event
 events_by words records None = events_of (known_of words records None)
 events_by words records (Some (EndsBy cause)) = events_of (known_of words records (Some cause))
-events_by words records (Some (BreaksAt place)) = events_of (known_of words records None) ++ Line (line.broken place) ∷ []
+events_by words records (Some (BreaksAt place)) = events_of (known_of words records None) ++ Line (program.broken place) ∷ []
 
 -- What a status says.
 
@@ -174,7 +172,8 @@ PutsEachReady tsi records puts = (before after : List Record) (heard : Record) (
 pub record IsRun (words : RxWords) (air_before air_after : Option Broadcast) (before after : Outputs) (result : Status) : Type 0 where
   pub records : List Record
   pub taken : Becomes air_before air_after (Takes records)
-  pub within : length records ≤ DATAGRAMS_MAX
+  pub within : length records ≤ datagrams_most
+  pub in_time : AreInTime words records
   pub while_open : TakesWhileOpen words records
   -- none where the session had not ended
   pub ending : Option Ending
@@ -188,9 +187,9 @@ pub record IsRun (words : RxWords) (air_before air_after : Option Broadcast) (be
 
 -- Words that are refused print one line, and nothing is heard or put.
 abbrev pub Refuses : Status → Outputs → Outputs → Type 0
-Refuses status.Usage before after = Makes before after (Line line.usage ∷ [])
-Refuses status.OutFault before after = Stops status.OutFault before after (Line line.usage ∷ [])
-Refuses status.Memory before after = Stops status.Memory before after (Line line.usage ∷ [])
+Refuses status.Usage before after = Makes before after (Line program.usage ∷ [])
+Refuses status.OutFault before after = Stops status.OutFault before after (Line program.usage ∷ [])
+Refuses status.Memory before after = Stops status.Memory before after (Line program.usage ∷ [])
 Refuses _ before after = ⊥
 
 abbrev pub Receives : Option RxWords → Option Broadcast → Option Broadcast → Outputs → Outputs → Status → Type 0
@@ -218,8 +217,8 @@ pub record IsCutTrace (words : RxWords) (air : Option Broadcast) : Type 0 where
   pub told : air ≡ Some broadcast
   pub place : ℕ
   pub broken : broadcast.broken ≡ Some place
-  pub few : length broadcast.records < DATAGRAMS_MAX
-  pub in_time : AllByRecursion (λ heard. heard.at ≤ words.until) broadcast.records
+  pub few : length broadcast.records < datagrams_most
+  pub in_time : AreInTime words broadcast.records
   pub while_open : is_closed words broadcast.records ≡ false
 
 -- the session was received to its end, or memory was wanting

@@ -116,11 +116,19 @@ change_life toi change (life ∷ lives) = if life.toi == toi then change life �
 abbrev pub needed : (Description → ℕ) → List Life → ℕ
 needed need lives = sum_by (λ life. if life.done then 0 else need life.desc) lives
 
--- one more life would pass the limit of 1,024 lives, or of 2^30 bytes of symbols or of equations
+-- how many lives stand at once at most
+abbrev pub lives_most : ℕ
+lives_most = 1024
+
+-- how many bytes the symbols of lives take at most, and as many their equations
+abbrev pub needed_most : ℕ
+needed_most = 2 ^ 30
+
+-- one more life would pass a limit
 abbrev pub is_full : List Life → Description → Bool
-is_full lives d = nat_lt 1024 (length lives + 1)
-    || nat_lt (2 ^ 30) (needed plain lives + plain d)
-    || nat_lt (2 ^ 30) (needed equations lives + equations d)
+is_full lives d = nat_lt lives_most (length lives + 1)
+    || nat_lt needed_most (needed plain lives + plain d)
+    || nat_lt needed_most (needed equations lives + equations d)
 
 abbrev pub start_life : ℕ → ℕ → Description → Life
 start_life expires toi d = record { toi = toi; desc = d; expires = expires; heard = None; done = false }

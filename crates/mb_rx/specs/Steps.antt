@@ -1,7 +1,7 @@
 -- What the parts of a run do, each to one of the outputs.
 use Rattle.std.specs.Prelude.{ℕ, List, Option, Result}
 use Rattle.mb_base.specs.Files.{File}
-use Rattle.mb_base.specs.declared.outcome.Status.{Status}
+use Rattle.mb_base.specs.Status.{Status}
 use Rattle.mb_rx.specs.Run.{Event}
 use Rattle.mb_rx.specs.Receive.{Does, outputs}
 

@@ -2,17 +2,14 @@ ghost use Rattle.std.specs.Prelude.{◌≡◌, [], ◌∷◌};
 ghost use Rattle.mb_rx.specs.Run.{Put, Line};
 ghost use Rattle.mb_rx.specs.Steps.{Prints, Puts};
 
-use mb_base::{Failed, Sink, Status, Store, write_all};
+use mb_base::{Failed, Sink, Status, Store};
 
 /// Prints a line.
 pub fn print<O: Sink>(out: &mut O, line: &str) -> Result<(), Status>
     ensures printed { Prints (O.written out.old) (O.faults out.old) (O.written out.new) (O.faults out.new) (Line line.now ∷ []) result }
     ensures same { O.made out.new ≡ O.made out.old }
 {
-    match write_all(out, line.as_bytes()) {
-        Ok(()) => Ok(()),
-        Err(Failed) => Err(Status::OutFault),
-    }
+    mb_program::print(out, line)
 }
 
 /// Puts a file into the store.

@@ -5,6 +5,7 @@ ghost use Rattle.mb_rx.specs.Form as form;
 ghost use Rattle.mb_rx.specs.Seen.{form_seen};
 
 use mb_alc::{Body, Exts, Fti, Packet};
+use mb_base::DATAGRAM_MAX;
 
 /// The TOI of FDT Instances (RFC 3926 section 3.3).
 const FDT_TOI: u128 = 0;
@@ -13,10 +14,10 @@ const FDT_TOI: u128 = 0;
 const NO_CODE: u8 = 0;
 
 /// How many bytes of text fit a datagram behind a header of nine words and a FEC payload ID.
-const TEXT_MAX: usize = 65_495;
+const TEXT_MAX: usize = DATAGRAM_MAX - 9 * 4 - 4;
 
 /// How many bytes of payload fit a datagram behind a header of four words and a FEC payload ID.
-const PAYLOAD_MAX: usize = 65_515;
+const PAYLOAD_MAX: usize = DATAGRAM_MAX - 4 * 4 - 4;
 
 /// What a packet brings, where it has a form that is received. It borrows the datagram.
 #[derive(Drop)]

@@ -3,8 +3,8 @@
 ghost use Rattle.std.specs.Prelude.{◌≡◌, ℕ, List, ◌++◌, Option, Some};
 ghost use Rattle.mb_base.specs.Outside.{Rose};
 ghost use Rattle.mb_base.specs.Broadcast.{Broadcast};
-ghost use Rattle.mb_base.specs.declared.outcome.Status.{Status};
-ghost use Rattle.mb_base.specs.declared.outcome.Status.TheVariants as status;
+ghost use Rattle.mb_base.specs.Status.{Status};
+ghost use Rattle.mb_base.specs.Status.TheVariants as status;
 ghost use Rattle.mb_rx.specs.declared.words.RxWords.{RxWords};
 ghost use Rattle.mb_rx.specs.Receive.{Receives, Outputs, IsUncounted, IsWholeTrace, IsCutTrace, Completes, FindsBroken};
 ghost use Rattle.mb_rx.specs.Run.{Event, Known, Extends, events_of};

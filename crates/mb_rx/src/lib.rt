@@ -27,4 +27,4 @@ mod words_tests;
 pub use cause::{Cause, DATAGRAMS_MAX, Ending};
 pub use laws::{broken_traces_are_found, faultless_calls_complete, run_grows};
 pub use receiving::receive;
-pub use words::{Mode, ReportWord, RxWords, Texts, read_words};
+pub use words::{Mode, ReportWord, RxWords, read_words};

@@ -95,13 +95,6 @@ fn hex_digit(n: u8) -> char
     }
 }
 
-/// The line of a trace that ends inside a record.
-pub fn broken_line(alloc: Global, place: u64) -> Result<String, AllocError>
-    ensures { IfOk result (λ text. string_bytes text ≡ line.broken place) }
-{
-    format!(in alloc; "broken {place}\n")
-}
-
 /// The line of a session's end.
 pub fn end_line(
     alloc: Global,

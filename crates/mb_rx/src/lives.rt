@@ -1,10 +1,9 @@
 ghost use Rattle.std.specs.Prelude.{◌≡◌, ℕ, ◌≤◌, ◌<◌, ◌^◌, ◌+◌, map, length, position, sum_by, ◌==◌, Option, Some, None, true, IfSome, IfOk, vec_len};
 ghost use Rattle.std.specs.List.{list_all};
 ghost use Rattle.mb_geom.specs.Description.{plain, equations};
-ghost use Rattle.mb_rx.specs.Receiver.{object_reason, needed, is_full, entered, is_no_code, is_built, is_received, life_of, with_description, with_entry, with_instance};
+ghost use Rattle.mb_rx.specs.Receiver.{object_reason, needed, is_full, lives_most, entered, is_no_code, is_built, is_received, life_of, with_description, with_entry, with_instance};
 ghost use Rattle.mb_alc.specs.Seen.{body_seen};
 ghost use Rattle.mb_rx.specs.Seen.{life_seen, lives_seen, HandsOut, AreApart};
-ghost use Rattle.mb_rx.specs.declared.lives.TheConstants.{LIVES_MAX};
 
 use crate::drops::Reason;
 use crate::toi::Toi;
@@ -149,7 +148,7 @@ struct Need {
 
 /// What the lives need that were not handed out.
 fn needed(lives: &[Life]) -> Need
-    requires { length lives.now ≤ LIVES_MAX }
+    requires { length lives.now ≤ lives_most }
     ensures plain { result.plain ≡ needed plain (lives_seen lives.now) }
     ensures equations { result.equations ≡ needed equations (lives_seen lives.now) }
     ensures small { result.plain ≤ 2 ^ 58 × result.equations ≤ 2 ^ 58 }
@@ -169,7 +168,7 @@ fn needed(lives: &[Life]) -> Need
 
 /// Whether a life under this description more would pass a limit.
 fn is_full(lives: &[Life], desc: &Desc) -> bool
-    requires { length lives.now ≤ LIVES_MAX }
+    requires { length lives.now ≤ lives_most }
     ensures { result ≡ is_full (lives_seen lives.now) desc.now }
 {
     let need = needed(lives);
@@ -185,9 +184,9 @@ fn add_file(
     toi: u128,
     desc: Desc,
 ) -> Result<Entered, AllocError>
-    requires few { vec_len lives.old ≤ LIVES_MAX }
+    requires few { vec_len lives.old ≤ lives_most }
     requires apart { AreApart lives.old.items }
-    ensures few { vec_len lives.new ≤ LIVES_MAX }
+    ensures few { vec_len lives.new ≤ lives_most }
     ensures apart { AreApart lives.new.items }
     ensures added { IfOk result (λ e. with_description expires toi desc (life_of toi (lives_seen lives.old.items)) (lives_seen lives.old.items) ≡ (lives_seen lives.new.items, e)) }
 {
@@ -244,9 +243,9 @@ pub fn are_received(files: &[FileEntry]) -> bool
 /// Acts on an entry of an instance that stands up to `expires`.
 #[tactic(auto, unfolding(crate::specs::Receiver::with_entry))]
 fn add_entry(lives: &mut Vec<Life>, expires: u64, entry: FileEntry) -> Result<Entered, AllocError>
-    requires few { vec_len lives.old ≤ LIVES_MAX }
+    requires few { vec_len lives.old ≤ lives_most }
     requires apart { AreApart lives.old.items }
-    ensures few { vec_len lives.new ≤ LIVES_MAX }
+    ensures few { vec_len lives.new ≤ lives_most }
     ensures apart { AreApart lives.new.items }
     ensures added { IfOk result (λ e. with_entry expires (lives_seen lives.old.items) entry.toi entry.entry ≡ (lives_seen lives.new.items, e)) }
 {
@@ -262,9 +261,9 @@ pub fn add_files(
     expires: u64,
     files: FileEntries,
 ) -> Result<Report, AllocError>
-    requires few { vec_len lives.old ≤ LIVES_MAX }
+    requires few { vec_len lives.old ≤ lives_most }
     requires apart { AreApart lives.old.items }
-    ensures few { vec_len lives.new ≤ LIVES_MAX }
+    ensures few { vec_len lives.new ≤ lives_most }
     ensures apart { AreApart lives.new.items }
     ensures added { IfOk result (λ report. with_instance expires files (lives_seen lives.old.items)
         ≡ record { lives = lives_seen lives.new.items; report = report }) }

@@ -1,7 +1,7 @@
 //! What `receive` prints, stores and answers over objects in memory.
 use super::*;
 use mb_base::{
-    Air, AirEvent, DATAGRAM_MAX, ListChance, MemLinks, MemSink, MemSource, MemStore, Memory,
+    Air, AirEvent, DATAGRAM_MAX, DatagramBuffer, ListChance, MemLinks, MemSink, MemSource, MemStore, Memory,
     OpenGate, Status, TraceAir, put_be32, trace_bytes,
 };
 use std::alloc::Global;
@@ -170,7 +170,7 @@ pub(crate) fn received<R: Threads + Sync + AllocGlobal>(
         &mut chance,
         &OpenGate,
     );
-    let mut buf = vec![in alloc; 0; DATAGRAM_MAX]?;
+    let mut buf = DatagramBuffer::new(alloc)?;
     let next = air.next(NOW, &mut buf);
     Ok(Left {
         status,

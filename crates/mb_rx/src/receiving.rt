@@ -1,6 +1,6 @@
 ghost use Rattle.std.specs.Prelude.{◌≡◌, ◌≢◌, ◌≤◌, map, string_bytes, Ok, Err, IfOk};
 ghost use Rattle.mb_base.specs.Outside.{Rose};
-ghost use Rattle.mb_base.specs.declared.outcome.Status.TheVariants as status;
+ghost use Rattle.mb_base.specs.Status.TheVariants as status;
 ghost use Rattle.mb_rx.specs.Receive.{Receives, IsRun, Refuses, outputs};
 ghost use Rattle.mb_rx.specs.Outcome.{Runs};
 ghost use Rattle.mb_rx.specs.Words.{words_of};
@@ -8,11 +8,11 @@ ghost use Rattle.mb_rx.specs.Words.{words_of};
 use crate::cause::Ending;
 use crate::ends::print_end;
 use crate::events::print;
-use crate::lines::broken_line;
 use crate::session::listen;
 use crate::table::Table;
 use crate::words::{RxWords, read_words};
 use mb_base::{Air, Chance, Gate, Links, Sink, Source, Status, Store, WordsFault};
+use mb_program::{broken_line, refuse};
 use std::alloc::Global;
 use std::thread::Threads;
 
@@ -102,10 +102,7 @@ pub fn receive<
             Ok(status) => status,
             Err(status) => status,
         },
-        Err(WordsFault::Refused) => match print(out, "usage\n") {
-            Ok(()) => Status::Usage,
-            Err(status) => status,
-        },
+        Err(WordsFault::Refused) => refuse(out),
         Err(WordsFault::Memory) => Status::Memory,
     }
 }

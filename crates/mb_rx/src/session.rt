@@ -1,6 +1,6 @@
-ghost use Rattle.std.specs.Prelude.{◌≡◌, ◌≤◌, ◌<◌, [], Some, Err, length, vec_len, OnOk, IfOk};
+ghost use Rattle.std.specs.Prelude.{◌≡◌, ◌≤◌, [], Some, Err, OnOk};
 ghost use Rattle.mb_base.specs.Outside.{Rose};
-ghost use Rattle.mb_base.specs.declared.outcome.Status.TheVariants as status;
+ghost use Rattle.mb_base.specs.Status.TheVariants as status;
 ghost use Rattle.mb_rx.specs.Receive.{Does, outputs};
 ghost use Rattle.mb_rx.specs.Run.{Session, after_record, put_events};
 ghost use Rattle.mb_rx.specs.Heard.{IsHeard, HasPlace};
@@ -13,8 +13,8 @@ use crate::lines::{bad_instance_line, instance_line, stored_line};
 use crate::lives::Life;
 use crate::table::{Heard, Table};
 use crate::words::RxWords;
-use mb_base::{Air, AirEvent, DATAGRAM_MAX, Sink, Status, Store};
-use std::alloc::{AllocError, Global};
+use mb_base::{Air, AirEvent, DatagramBuffer, Sink, Status, Store};
+use std::alloc::Global;
 
 /// How listening ended, and how many datagrams were taken.
 #[derive(Clone, Copy)]
@@ -102,11 +102,10 @@ fn hear_next<A: Air, S: Store, O: Sink>(
     words: &RxWords,
     table: &mut Table,
     air: &mut A,
-    buf: &mut [u8],
+    buf: &mut DatagramBuffer,
     store: &mut S,
     out: &mut O,
 ) -> Result<Option<Ending>, Status>
-    requires { length buf.old ≡ DATAGRAM_MAX }
     ensures hears { listening.Hears words.now (A.broadcast air.old) (A.broadcast air.new) table.old table.new
         (outputs (S.files store.old) (S.faults store.old) (O.written out.old) (O.faults out.old))
         (outputs (S.files store.new) (S.faults store.new) (O.written out.new) (O.faults out.new)) result }
@@ -121,7 +120,7 @@ fn hear_next<A: Air, S: Store, O: Sink>(
     }
     match air.next(words.until, buf) {
         AirEvent::Datagram { at, len } => {
-            hear_datagram(alloc, words, table, at, &buf[..len], store, out)?;
+            hear_datagram(alloc, words, table, at, buf.front(len), store, out)?;
             Ok(None)
         }
         AirEvent::Quiet => Ok(Some(Ending::EndsBy(Cause::Quiet))),
@@ -129,13 +128,6 @@ fn hear_next<A: Air, S: Store, O: Sink>(
         AirEvent::Broken { place } => Ok(Some(Ending::BreaksAt(place))),
         AirEvent::Failed => Err(Status::AirFault),
     }
-}
-
-/// Room for so many bytes.
-fn room(alloc: Global, len: usize) -> Result<Vec<u8>, AllocError>
-    ensures { IfOk result (λ v. vec_len v ≡ len) }
-{
-    vec![in alloc; 0; len]
 }
 
 /// Listens to a session from its beginning to its end: hears each datagram and makes its events.
@@ -156,7 +148,7 @@ pub fn listen<A: Air, S: Store, O: Sink>(
     ensures same_store { S.made store.new ≡ S.made store.old }
     ensures same_out { O.made out.new ≡ O.made out.old }
 {
-    let mut buf = room(alloc, DATAGRAM_MAX)?;
+    let mut buf = DatagramBuffer::new(alloc)?;
     for datagrams in 0..DATAGRAMS_MAX {
         if let Some(ending) = hear_next(alloc, words, table, air, &mut buf, store, out)? {
             return Ok(Listened { ending, datagrams });

@@ -47,7 +47,7 @@ pub struct Table {
 
 impl Model for Table {
     ghost use Rattle.std.specs.Prelude.{◌≤◌, vec_len};
-    ghost use Rattle.mb_rx.specs.Receiver.{Receiver};
+    ghost use Rattle.mb_rx.specs.Receiver.{Receiver, lives_most};
     ghost use Rattle.mb_rx.specs.Seen.{lives_seen, AreApart};
 
     ghost Value = { Receiver };
@@ -61,7 +61,7 @@ impl Model for Table {
       drops = t.drops;
     } };
 
-    ghost invariant = { λ t. (vec_len t.lives ≤ 1024) × AreApart t.lives.items };
+    ghost invariant = { λ t. (vec_len t.lives ≤ lives_most) × AreApart t.lives.items };
 }
 
 impl Table {

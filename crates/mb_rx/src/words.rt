@@ -1,9 +1,9 @@
-ghost use Rattle.std.specs.Prelude.{◌≡◌, ◌↔◌, ◌≤◌, if◌then◌else◌, length, map, option_map, string_bytes, Some, None, IsTrue, IfOk};
+ghost use Rattle.std.specs.Prelude.{◌≡◌, ◌≤◌, if◌then◌else◌, length, map, option_map, string_bytes, Some, None, IfOk};
 ghost use Rattle.mb_rx.specs.Words.{are_digits, value_of, tsi_of, words_of, session_words};
 
 use mb_base::{Bytes, WordsFault};
+use mb_program::Texts;
 use std::alloc::{AllocError, Global};
-use std::marker::Model;
 
 /// How symbols are asked for.
 #[derive(Clone, Copy, Debug, PartialEq, Eq)]
@@ -21,46 +21,6 @@ pub enum ReportWord {
     Rack,
     Star,
     StarAll,
-}
-
-/// Texts, which a contract sees as the list of their bytes.
-#[derive(Drop)]
-pub struct Texts {
-    items: Vec<Bytes>,
-}
-
-impl Model for Texts {
-    ghost use Rattle.std.specs.Prelude.{ℕ, List};
-
-    ghost Value = { List (List ℕ) };
-
-    ghost view = { λ t. t.items.items };
-}
-
-impl Texts {
-    pub fn from_vec(items: Vec<Bytes>) -> Self
-        ensures { result ≡ items.items }
-    {
-        Texts { items }
-    }
-
-    pub fn as_slice(&self) -> &[Bytes]
-        ensures { result.now ≡ self.now }
-    {
-        self.items.as_slice()
-    }
-
-    pub fn len(&self) -> usize
-        ensures { result ≡ length self.now }
-    {
-        self.items.len()
-    }
-
-    pub fn is_empty(&self) -> bool
-        ensures { IsTrue result ↔ (length self.now ≡ 0) }
-    {
-        self.items.is_empty()
-    }
 }
 
 /// The values of the receiver's words.

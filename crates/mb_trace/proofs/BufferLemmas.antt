@@ -1,7 +1,7 @@
 -- Lemmas on the bytes that are held between a source and an air.
-use Rattle.std.proofs.Common.{◌≡◌, ℕ, ◌+◌, ◌-◌, ◌≤◌, List, [], ◌++◌, length, take, drop, slice_range, Option, Some, None, refl, sym, ap, ◌∙◌, arith, append_assoc, append-nil}
+use Rattle.std.proofs.Common.{◌≡◌, ℕ, ◌+◌, ◌-◌, ◌≤◌, List, [], ◌++◌, length, take, drop, slice_range, Option, Some, None, Result, Ok, Err, refl, sym, ap, ◌∙◌, arith, append_assoc, append-nil}
 use Rattle.std.specs.Vec.{with_items}
-use Rattle.std.specs.Prelude.{Vec}
+use Rattle.std.specs.Prelude.{Vec, OnErr}
 use Rattle.std.proofs.lemmas.List.{with_items_is, length-append, take_at, drop_at, take-append-le, drop-append-le, drop-take, drop-drop, length-take-le, length-drop, drop_all}
 use borrow.Rule.Slice.PartMut.{put_mid, post_of}
 use lib.Seq.{take-add}
@@ -68,3 +68,8 @@ pub Stays-kept : (a b : Option (List ℕ)) (old new : List ℕ) → Stays a b �
 Stays-kept None b old new p e = tt
 Stays-kept (Some x) None old new p e = absurd p
 Stays-kept (Some x) (Some y) old new p e = ap (λ l. l ++ y) e ∙ ap (λ l. old ++ l) p
+
+-- a fact holds whatever is answered
+pub OnErr-always : {T E : Type 0} (result : Result T E) (P : Type 0) → P → OnErr result P
+OnErr-always (Ok value) P p = tt
+OnErr-always (Err fault) P p = p

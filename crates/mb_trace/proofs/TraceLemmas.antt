@@ -1,12 +1,13 @@
 -- Lemmas on traces.
-use Rattle.std.proofs.Common.{◌≡◌, ◌≢◌, ℕ, zero, suc, ◌+◌, ◌-◌, ◌^◌, ◌<◌, ◌≤◌, min, List, [], ◌∷◌, ◌++◌, length, take, drop, Bool, true, false, Option, Some, None, refl, sym, ap, ap₂, subst, ◌∙◌, inl, inr, eq-eqb, ne_eqb, arith, length-append, length-take-le, length-drop}
+use Rattle.std.proofs.Common.{◌≡◌, ◌≢◌, ℕ, zero, suc, ◌+◌, ◌-◌, ◌^◌, ◌<◌, ◌≤◌, min, List, [], ◌∷◌, ◌++◌, length, take, drop, Bool, true, false, Option, Some, None, refl, sym, ap, ap₂, subst, ◌∙◌, inl, inr, eq-eqb, ne_eqb, arith, append_assoc, length-append, length-take-le, length-drop}
 use Rattle.std.specs.Prelude.{flat_map, option_map, if◌then◌else◌}
-use Rattle.std.proofs.lemmas.List.{take-append-le, drop-append-le}
+use Rattle.std.proofs.lemmas.List.{take-append-le, take-append-drop, drop-append-le, drop_at}
 use Rattle.std.proofs.lemmas.Bool.{leb-true, leb-false, le-leb, lt-leb, cases_eq}
-use Rattle.mb_outside.specs.Outside.{count_most}
+use Rattle.mb_outside.specs.Outside.{Stays, Becomes, count_most}
 use Rattle.mb_outside.specs.Broadcast.{Record, Broadcast, IsPast}
+use Rattle.mb_outside.specs.declared.air.AirEvent.{AirEvent}
 use Rattle.mb_trace.specs.Number.{be_number, be_bytes}
-use Rattle.mb_trace.specs.Trace.{record_bytes, record_size, has_record, first_record, records_in, records_of, records_end, broken_of, told_place, trace_broadcast, IsWhole, IsPart}
+use Rattle.mb_trace.specs.Trace.{record_bytes, record_size, has_record, first_record, records_in, records_of, records_end, broken_of, told_place, trace_broadcast, bytes_ahead, IsWhole, IsPart, AreRecords, Gives}
 use Rattle.mb_trace.proofs.NumberLemmas.{length-be_bytes}
 
 -- ---- the record at the front
@@ -229,6 +230,38 @@ given size place after at held next datagram whole at-is datagram-is after-is ne
     ap₂ (make_broadcast rested)
     (records_of-has bs has ∙ ap₂ ◌∷◌ first (ap records_of rest))
     (told_place-has place bs has ∙ ap₂ told_place (ap (λ n. min (place + n) count_most) same ∙ sym after-is) rest)
+
+-- its bytes are those of that record alone
+pub given_bytes : (size at : ℕ) (held next datagram : List ℕ) → IsWhole size held → at ≡ be_number (take 6 held)
+    → datagram ≡ take (size - 8) (drop 8 held) → next ≡ drop size held
+    → (later : List ℕ) → (bytes : List ℕ) × (held ++ later ≡ bytes ++ (next ++ later)) × AreRecords bytes (record { at = at; bytes = datagram } ∷ [])
+given_bytes size at held next datagram whole at-is datagram-is next-is later =
+    let front = take size held in
+    let behind = drop size held in
+    let joined : held ≡ front ++ behind = sym (take-append-drop size held) in
+    let len : length front ≡ size = length-take-le size held whole.within in
+    let long : 8 ≤ length front = omega (arith, len, whole.header) in
+    let same : record_size front ≡ size = sym (size-append front behind long) ∙ ap record_size (sym joined) ∙ sym whole.is in
+    let has : has_record front ≡ true = has_from-le front (omega (arith, same, len)) in
+    let first : first_record front ≡ record { at = at; bytes = datagram } =
+    sym (first-append front behind has) ∙ ap first_record (sym joined)
+    ∙ ap₂ make_record (first-at held ∙ sym at-is) (first-bytes held ∙ ap (λ n. take (n - 8) (drop 8 held)) (sym whole.is) ∙ sym datagram-is) in
+    let split : held ++ later ≡ front ++ (next ++ later) =
+    ap (λ l. l ++ later) joined ∙ append_assoc front behind later ∙ ap (λ l. front ++ (l ++ later)) (sym next-is) in (
+      front,
+      split,
+      λ more.
+          records_of-has (front ++ more) (has-append front more has)
+          ∙ ap₂ ◌∷◌ (first-append front more has ∙ first)
+          (ap records_of (ap (λ n. drop n (front ++ more)) (size-append front more long ∙ same) ∙ drop_at front more size len)),
+    )
+
+-- what was given from the front of what is held was given from the front of all that is ahead
+pub Gives-ahead : (event : AirEvent) (buf old mid new : List ℕ) (a b : Option (List ℕ)) → Stays (bytes_ahead old a) (bytes_ahead mid b)
+    → ((later : List ℕ) → Gives event buf (mid ++ later) (new ++ later)) → Becomes (bytes_ahead old a) (bytes_ahead new b) (Gives event buf)
+Gives-ahead event buf old mid new None b same gives = tt
+Gives-ahead event buf old mid new (Some x) None same gives = absurd same
+Gives-ahead event buf old mid new (Some x) (Some y) same gives = subst (λ (l : List ℕ). Gives event buf l (new ++ y)) same (gives y)
 
 -- the whole record at the front is of a later moment
 pub late : (size until : ℕ) (held : List ℕ) → IsWhole size held → until < be_number (take 6 held) → (later : List ℕ)

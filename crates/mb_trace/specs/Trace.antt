@@ -4,6 +4,8 @@ use Rattle.std.specs.Prelude.{◌≡◌, ◌≢◌, ◌↔◌, ℕ, zero, suc, �
 use Rattle.mb_trace.specs.Number.{AreBytes, be_number, be_bytes}
 use Rattle.mb_outside.specs.Outside.{count_most}
 use Rattle.mb_outside.specs.Broadcast.{Record, Broadcast, datagram_most}
+use Rattle.mb_outside.specs.declared.air.AirEvent.{AirEvent}
+use Rattle.mb_outside.specs.declared.air.AirEvent.TheVariants.{Datagram, Quiet, Ended, Broken, Failed}
 
 -- moments are below this number of NTP seconds: what 48 bits can say
 abbrev pub moments_end : ℕ
@@ -77,6 +79,19 @@ records_end bytes = length (flat_map record_bytes (records_of bytes))
 -- where a record is cut: none is where the whole records end with the bytes
 unfoldable pub broken_of : List ℕ → Option ℕ
 broken_of bytes = if nat_eq (records_end bytes) (length bytes) then None else Some (records_end bytes)
+
+-- at the front of any bytes, these are the bytes of these whole records
+abbrev pub AreRecords : List ℕ → List Record → Type 0
+AreRecords bytes records = (later : List ℕ) → records_of (bytes ++ later) ≡ records ++ records_of later
+
+-- What an event takes from the front of a trace: the bytes of the record that it gives, and none where it gives none.
+abbrev pub Gives : AirEvent → List ℕ → List ℕ → List ℕ → Type 0
+Gives (Datagram at len) buf old new =
+    (bytes : List ℕ) × (old ≡ bytes ++ new) × AreRecords bytes (record { at = at; bytes = take len buf } ∷ [])
+Gives Quiet buf old new = new ≡ old
+Gives Ended buf old new = new ≡ old
+Gives (Broken place) buf old new = new ≡ old
+Gives Failed buf old new = new ≡ old
 
 -- bytes are a trace in one way, and these functions give it
 abbrev pub TracesAreRead : Type 0

@@ -1,4 +1,4 @@
-ghost use Rattle.std.specs.Prelude.{◌≡◌, ℕ, List, [], Option, ◌+◌, ◌<◌, ◌≤◌, length, drop, vec_len, IfOk};
+ghost use Rattle.std.specs.Prelude.{◌≡◌, ℕ, List, [], Option, ◌+◌, ◌<◌, ◌≤◌, length, drop, vec_len, IfOk, OnErr};
 ghost use Rattle.mb_outside.specs.Outside.{HasCause, Stays, EndsAt};
 ghost use Rattle.mb_trace.specs.Trace.{bytes_ahead, record_most};
 
@@ -62,6 +62,7 @@ impl RecordBuffer {
         requires { length (held_bytes self.old) < record_most }
         ensures kept { Stays (bytes_ahead (held_bytes self.old) (S.left source.old))
             (bytes_ahead (held_bytes self.new) (S.left source.new)) }
+        ensures failed { OnErr result (held_bytes self.new ≡ held_bytes self.old) }
         ensures more { IfOk result (λ n. length (held_bytes self.new) ≡ length (held_bytes self.old) + n) }
         ensures most { length (held_bytes self.new) ≤ record_most }
         ensures end { IfOk result (λ n. n ≡ 0 →

@@ -1,8 +1,8 @@
-ghost use Rattle.std.specs.Prelude.{◌≡◌, ◌≢◌, ℕ, List, ◌++◌, ◌<◌, ◌≤◌, Option, Some, true, length, option_map, IfOk, IfSome, IfNone};
+ghost use Rattle.std.specs.Prelude.{◌≡◌, ◌≢◌, ℕ, List, [], ◌++◌, ◌<◌, ◌≤◌, Option, Some, true, false, length, option_map, IfOk, IfSome, IfNone, OnErr};
 ghost use Rattle.mb_outside.specs.Outside.{AreBytes, Becomes, HasCause, Stays, EndsAt, count_most};
 ghost use Rattle.mb_outside.specs.Broadcast.{Hears, IsWithin, EventCause};
 ghost use Rattle.mb_trace.specs.RecordBuffer.{held_bytes};
-ghost use Rattle.mb_trace.specs.Trace.{trace_broadcast, bytes_ahead, has_record, moments_end, IsWhole, IsPart, TellsTrace};
+ghost use Rattle.mb_trace.specs.Trace.{trace_broadcast, bytes_ahead, has_record, moments_end, IsWhole, IsPart, TellsTrace, Gives};
 
 use crate::number::be48;
 use crate::record_buffer::RecordBuffer;
@@ -21,12 +21,13 @@ pub struct TraceReader {
 }
 
 impl TraceReader {
-    ghost use Rattle.mb_trace.specs.TraceReader.{ahead_of, holds_record};
+    ghost use Rattle.mb_trace.specs.TraceReader.{ahead_of, held_of, holds_record};
 
     /// A reader that has read nothing. `Memory` where there is no room for a record.
     pub fn new(alloc: Global) -> Result<TraceReader, Memory>
         ensures ahead { IfOk result (λ reader. (rested : Option ℕ) (left : Option (List ℕ))
             → ahead_of reader rested left ≡ option_map (trace_broadcast 0 rested) left) }
+        ensures none { IfOk result (λ reader. held_of reader ≡ []) }
         ensures trace { IfOk result (λ reader. (rested : Option ℕ) (bytes : List ℕ) → AreBytes bytes
             → length bytes ≤ count_most → TellsTrace bytes rested (ahead_of reader rested (Some bytes))) }
     {
@@ -53,6 +54,10 @@ impl TraceReader {
         ensures within { IsWithin until result }
         ensures heard { (rested : Option ℕ) → Becomes (ahead_of self.old rested (S.left source.old))
             (ahead_of self.new rested (S.left source.new)) (Hears until result buf.new) }
+        ensures given { Becomes (bytes_ahead (held_of self.old) (S.left source.old))
+            (bytes_ahead (held_of self.new) (S.left source.new)) (Gives result buf.new) }
+        // It fails only where each whole record that it has read was given.
+        ensures failed { result ≡ AirEvent.Failed → (holds_record self.old ≡ false) × (holds_record self.new ≡ false) }
         ensures unread { holds_record self.old ≡ true → source.new ≡ source.old }
         // No moment is past the last that a record can have.
         ensures quiet { result ≡ AirEvent.Quiet → until < moments_end }
@@ -73,6 +78,7 @@ fn fill_record<S: Source>(held: &mut RecordBuffer, source: &mut S) -> Result<Opt
         (bytes_ahead (held_bytes held.new) (S.left source.new)) }
     ensures whole { IfOk result (λ found. IfSome found (λ size. IsWhole size (held_bytes held.new))) }
     ensures end { IfOk result (λ found. IfNone found (IsPart (held_bytes held.new) × EndsAt (S.left source.new))) }
+    ensures failed { OnErr result ((has_record (held_bytes held.old) ≡ false) × (has_record (held_bytes held.new) ≡ false)) }
     ensures unread { has_record (held_bytes held.old) ≡ true → source.new ≡ source.old }
     ensures cause { HasCause (S.faults source.old) (S.faults source.new) result }
     ensures same { S.made source.new ≡ S.made source.old }
@@ -100,7 +106,9 @@ fn give(
     ensures heard { (rested : Option ℕ) (later : List ℕ) → Hears until result buf.new
         (trace_broadcast place.old rested (held_bytes held.old ++ later))
         (trace_broadcast place.new rested (held_bytes held.new ++ later)) }
+    ensures given { (later : List ℕ) → Gives result buf.new (held_bytes held.old ++ later) (held_bytes held.new ++ later) }
     ensures quiet { result ≡ AirEvent.Quiet → until < moments_end }
+    ensures unfailed { result ≢ AirEvent.Failed }
     ensures cause { (count : ℕ) → EventCause count count result }
 {
     let record = held.as_slice();
@@ -121,6 +129,8 @@ fn end_at(place: u64, bytes: &[u8]) -> AirEvent
     ensures within { (until : ℕ) → IsWithin until result }
     ensures heard { (until : ℕ) (rested : Option ℕ) (buf : List ℕ) → Hears until result buf
         (trace_broadcast place rested bytes.now) (trace_broadcast place rested bytes.now) }
+    ensures given { (buf bytes : List ℕ) → Gives result buf bytes bytes }
+    ensures unfailed { result ≢ AirEvent.Failed }
     ensures quiet { result ≢ AirEvent.Quiet }
     ensures cause { (count : ℕ) → EventCause count count result }
 {

@@ -1,4 +1,4 @@
-//! The receiver of one FLUTE session. Its words are `--tsi` and the session's number; the datagrams come
+//! The receiver of one FLUTE session. Its arguments are `--tsi` and the session's number; the datagrams come
 //! as a packet trace on the standard input, the files go into the folder in which it runs, and the lines to
 //! the standard output. It ends with the number of its status.
 #![tactic(auto)]
@@ -7,24 +7,16 @@ use mb_base::{
     FolderStore, ListChance, MemLinks, MemSource, Memory, OpenGate, Status, StdSink, StdSource,
     TraceAir,
 };
+use mb_program::arguments_of;
 use mb_rx::receive;
 use std::alloc::Global;
+use std::io;
 use std::process::ExitCode;
 use std::rt::{Env, Files};
 use std::thread::Threads;
-use std::{env, io};
 
 fn main(rt: HostRuntime) -> ExitCode {
     ExitCode::from(run(&rt).unwrap_or(Status::Memory).number())
-}
-
-/// The words after the program's name. Words that are no text are bad words, for which no words stand.
-fn words_of<R: Env + AllocGlobal>(rt: &R) -> Result<Vec<String>, Memory> {
-    match env::args(rt) {
-        Ok(words) => Ok(words.skip(1).collect(rt.alloc())?),
-        Err(error) if error.kind() == io::ErrorKind::OutOfMemory => Err(Memory),
-        Err(_) => Ok(Vec::new(rt.alloc())),
-    }
 }
 
 /// Receives over the objects that the program uses: nothing is asked of a server, and no tables are read.
@@ -32,7 +24,7 @@ fn run<R: Threads + Sync + Env + Files + Input + Print + AllocGlobal>(
     rt: &R,
 ) -> Result<Status, Memory> {
     let alloc: Global = rt.alloc();
-    let words = words_of(rt)?;
+    let arguments = arguments_of(rt)?;
     // A trace is read in large pieces already, so no buffer stands before it.
     let mut air = TraceAir::new(alloc, StdSource::new(rt.reader()))?;
     let mut tables = MemSource::new(Vec::new(alloc), Vec::new(alloc))?;
@@ -43,7 +35,7 @@ fn run<R: Threads + Sync + Env + Files + Input + Print + AllocGlobal>(
     Ok(receive(
         rt,
         alloc,
-        &words,
+        &arguments,
         &mut tables,
         &mut air,
         &mut store,

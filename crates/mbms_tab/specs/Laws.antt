@@ -4,16 +4,15 @@ use Rattle.mb_base.specs.Number.{AreBytes}
 use Rattle.mb_base.specs.Outside.{Rose}
 use Rattle.mb_base.specs.Broadcast.{Record}
 use Rattle.mb_base.specs.Trace.{IsTrace}
-use Rattle.mb_base.specs.declared.outcome.Status.{Status}
-use Rattle.mb_base.specs.declared.outcome.Status.TheVariants as status
-use Rattle.mbms_tab.specs.Show.{shown_records, shown_break, Shows}
-use Rattle.mbms_tab.specs.declared.showing.TheConstants.{RECORDS_MAX}
+use Rattle.mb_base.specs.Status.{Status}
+use Rattle.mb_base.specs.Status.TheVariants as status
+use Rattle.mbms_tab.specs.Show.{records_most, shown_records, shown_break, Shows}
 
 -- Bytes that are a trace of fewer records than are shown at most are shown whole: all its records, and the very
 -- place where it is broken.
 abbrev pub TracesAreShown : Type 0
 TracesAreShown = (bytes : List ℕ) (records : List Record) (broken : Option ℕ) → AreBytes bytes → IsTrace bytes records broken
-    → length records < RECORDS_MAX → (shown_records bytes ≡ records) × (shown_break bytes ≡ broken)
+    → length records < records_most → (shown_records bytes ≡ records) × (shown_break bytes ≡ broken)
 
 -- A status of a fault comes only where the count rose, and neither the source's nor the sink's rose.
 pub record IsFaultless (read_before read_after print_before print_after : ℕ) (result : Status) : Type 0 where
@@ -24,12 +23,12 @@ pub record IsFaultless (read_before read_after print_before print_after : ℕ) (
 
 -- a trace that is told and not broken is shown, or memory was wanting
 abbrev pub WholeTracesAreShown : Type 0
-WholeTracesAreShown = (bytes : List ℕ) (before after : Option (List ℕ)) (read_before read_after print_before print_after : ℕ) (result : Status)
-    → Shows (Some bytes) before after result → IsFaultless read_before read_after print_before print_after result
+WholeTracesAreShown = (bytes : List ℕ) (left_now before after : Option (List ℕ)) (read_before read_after print_before print_after : ℕ) (result : Status)
+    → Shows (Some bytes) left_now before after result → IsFaultless read_before read_after print_before print_after result
     → shown_break bytes ≡ None → (result ≡ status.Done) ⊎ (result ≡ status.Memory)
 
 -- one that is told and broken is found so, or memory was wanting
 abbrev pub BrokenTracesAreFound : Type 0
-BrokenTracesAreFound = (bytes : List ℕ) (place : ℕ) (before after : Option (List ℕ)) (read_before read_after print_before print_after : ℕ) (result : Status)
-    → Shows (Some bytes) before after result → IsFaultless read_before read_after print_before print_after result
+BrokenTracesAreFound = (bytes : List ℕ) (place : ℕ) (left_now before after : Option (List ℕ)) (read_before read_after print_before print_after : ℕ) (result : Status)
+    → Shows (Some bytes) left_now before after result → IsFaultless read_before read_after print_before print_after result
     → shown_break bytes ≡ Some place → (result ≡ status.TraceBroken) ⊎ (result ≡ status.Memory)

@@ -34,9 +34,3 @@ record_line heard = line_for heard.at (packet_of heard.bytes)
 -- the lines of records
 unfoldable pub show_text : List Record → List ℕ
 show_text records = flat_map record_line records
-
-abbrev pub broken : ℕ → List ℕ
-broken place = codes "broken " ++ (decimal place ++ codes "\n")
-
-abbrev pub usage : List ℕ
-usage = codes "usage\n"

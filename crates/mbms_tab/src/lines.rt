@@ -4,7 +4,8 @@ ghost use Rattle.mbms_tab.specs.Lines as line;
 ghost use Rattle.mbms_tab.specs.Show.{break_text};
 
 use mb_alc::{Packet, read_packet};
-use std::alloc::AllocError;
+use mb_program::broken_line;
+use std::alloc::{AllocError, Global};
 use std::fmt;
 
 /// A number, which is printed as a dash where there is none.
@@ -53,11 +54,11 @@ fn push_packet(lines: &mut String, at: u64, packet: &Packet<'_>) -> Result<(), A
 }
 
 /// Appends the line of a trace that ends inside a record, if it does.
-pub fn push_end(lines: &mut String, broken: Option<u64>) -> Result<(), AllocError>
+pub fn push_end(alloc: Global, lines: &mut String, broken: Option<u64>) -> Result<(), AllocError>
     ensures { OnOk result (string_bytes lines.new ≡ string_bytes lines.old ++ break_text broken) }
 {
     match broken {
-        Some(place) => write!(lines, "broken {place}\n"),
+        Some(place) => lines.push_str(broken_line(alloc, place)?.as_str()),
         None => Ok(()),
     }
 }

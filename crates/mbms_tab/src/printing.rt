@@ -1,22 +1,13 @@
 ghost use Rattle.std.specs.Prelude.{◌≡◌, string_bytes};
 ghost use Rattle.mb_base.specs.TraceReader.{holds_record};
-ghost use Rattle.mb_base.specs.declared.outcome.Status.TheVariants as status;
-ghost use Rattle.mbms_tab.specs.Steps.{CountsFaults, Finishes, Prints, PrintsUnless};
+ghost use Rattle.mb_base.specs.Status.TheVariants as status;
+ghost use Rattle.mb_program.specs.Printing.{CountsFaults};
+ghost use Rattle.mbms_tab.specs.Steps.{Finishes, PrintsUnless};
 
 use crate::lines::push_end;
-use mb_base::{Failed, Sink, Status, TraceReader, write_all};
-
-/// Prints text.
-pub fn print<O: Sink>(out: &mut O, text: &str) -> Result<(), Status>
-    ensures printed { Prints text.now (O.written out.old) (O.written out.new) result }
-    ensures cause { CountsFaults status.OutFault (O.faults out.old) (O.faults out.new) result }
-    ensures same { O.made out.new ≡ O.made out.old }
-{
-    match write_all(out, text.as_bytes()) {
-        Ok(()) => Ok(()),
-        Err(Failed) => Err(Status::OutFault),
-    }
-}
+use mb_base::{Sink, Status, TraceReader};
+use mb_program::print;
+use std::alloc::Global;
 
 /// Prints the gathered lines where the reader is about to read, since a read may have to wait for its bytes.
 pub fn print_before_read<O: Sink>(
@@ -39,6 +30,7 @@ pub fn print_before_read<O: Sink>(
 
 /// Prints the gathered lines, and behind them that of the place where the trace is broken, if it is.
 pub fn print_end<O: Sink>(
+    alloc: Global,
     broken: Option<u64>,
     lines: &mut String,
     out: &mut O,
@@ -47,6 +39,6 @@ pub fn print_end<O: Sink>(
     ensures cause { CountsFaults status.OutFault (O.faults out.old) (O.faults out.new) result }
     ensures same { O.made out.new ≡ O.made out.old }
 {
-    push_end(lines, broken)?;
+    push_end(alloc, lines, broken)?;
     print(out, lines.as_str())
 }

@@ -1,13 +1,13 @@
-ghost use Rattle.std.specs.Prelude.{◌≡◌, [], None, option_map, length, string_bytes, vec_len, IfOk};
-ghost use Rattle.mb_base.specs.Trace.{trace_broadcast};
-ghost use Rattle.mb_base.specs.TraceReader.{ahead_of};
-ghost use Rattle.mb_base.specs.declared.outcome.Status.TheVariants as status;
-ghost use Rattle.mbms_tab.specs.Steps.{CountsFaults, IsNext, IsRead, ShowsOrStops};
+ghost use Rattle.std.specs.Prelude.{◌≡◌, [], None, string_bytes};
+ghost use Rattle.mb_base.specs.TraceReader.{ahead_of, held_of, holds_record};
+ghost use Rattle.mb_base.specs.Status.TheVariants as status;
+ghost use Rattle.mb_program.specs.Printing.{CountsFaults};
+ghost use Rattle.mbms_tab.specs.Steps.{ahead_by, trace_ahead, IsNext, IsRead, ShowsOrStops};
 
 use crate::lines::push_record;
 use crate::printing::{print_before_read, print_end};
-use mb_base::{AirEvent, DATAGRAM_MAX, Sink, Source, Status, TraceReader};
-use std::alloc::{AllocError, Global};
+use mb_base::{AirEvent, DatagramBuffer, Sink, Source, Status, TraceReader};
+use std::alloc::Global;
 
 /// How many records of a trace are shown at most.
 pub const RECORDS_MAX: u32 = 4_294_967_295;
@@ -25,18 +25,19 @@ pub enum Turn {
 fn gather_next<S: Source>(
     reader: &mut TraceReader,
     src: &mut S,
-    buf: &mut [u8],
+    buf: &mut DatagramBuffer,
     lines: &mut String,
 ) -> Result<Turn, Status>
-    requires { length buf.old ≡ DATAGRAM_MAX }
-    ensures next { IsNext (ahead_of reader.old None (S.left src.old)) (ahead_of reader.new None (S.left src.new))
-        (string_bytes lines.old) (string_bytes lines.new) result }
+    ensures next { IsNext (holds_record reader.old)
+        (ahead_by (held_of reader.old) (S.left src.old) (ahead_of reader.old None (S.left src.old)))
+        (ahead_by (held_of reader.new) (S.left src.new) (ahead_of reader.new None (S.left src.new)))
+        (S.left src.new) (string_bytes lines.old) (string_bytes lines.new) result }
     ensures cause { CountsFaults status.ReadFault (S.faults src.old) (S.faults src.new) result }
     ensures same { S.made src.new ≡ S.made src.old }
 {
     match reader.next(src, u64::MAX, buf) {
         AirEvent::Datagram { at, len } => {
-            push_record(lines, at, &buf[..len])?;
+            push_record(lines, at, buf.front(len))?;
             Ok(Turn::More)
         }
         AirEvent::Quiet => unreachable!(),
@@ -51,13 +52,13 @@ fn gather_next<S: Source>(
 fn read_lines<S: Source, O: Sink>(
     reader: &mut TraceReader,
     src: &mut S,
-    buf: &mut [u8],
+    buf: &mut DatagramBuffer,
     lines: &mut String,
     out: &mut O,
 ) -> Result<Option<u64>, Status>
-    requires room { length buf.old ≡ DATAGRAM_MAX }
     requires none { string_bytes lines.old ≡ [] }
-    ensures read { IsRead (ahead_of reader.old None (S.left src.old)) (string_bytes lines.new) (O.written out.old) (O.written out.new) result }
+    ensures read { IsRead (ahead_by (held_of reader.old) (S.left src.old) (ahead_of reader.old None (S.left src.old)))
+        (S.left src.new) (string_bytes lines.new) (O.written out.old) (O.written out.new) result }
     ensures read_cause { CountsFaults status.ReadFault (S.faults src.old) (S.faults src.new) result }
     ensures print_cause { CountsFaults status.OutFault (O.faults out.old) (O.faults out.new) result }
     ensures same_src { S.made src.new ≡ S.made src.old }
@@ -72,29 +73,22 @@ fn read_lines<S: Source, O: Sink>(
     Ok(None)
 }
 
-/// Room for so many bytes.
-fn room(alloc: Global, len: usize) -> Result<Vec<u8>, AllocError>
-    ensures { IfOk result (λ v. vec_len v ≡ len) }
-{
-    vec![in alloc; 0; len]
-}
-
 /// Prints what the datagrams of a trace say, each in a line, and answers where the trace is broken, if it is.
 pub fn show<S: Source, O: Sink>(
     alloc: Global,
     src: &mut S,
     out: &mut O,
 ) -> Result<Option<u64>, Status>
-    ensures shown { ShowsOrStops (option_map (trace_broadcast 0 None) (S.left src.old)) (O.written out.old) (O.written out.new) result }
+    ensures shown { ShowsOrStops (trace_ahead (S.left src.old)) (S.left src.new) (O.written out.old) (O.written out.new) result }
     ensures read_cause { CountsFaults status.ReadFault (S.faults src.old) (S.faults src.new) result }
     ensures print_cause { CountsFaults status.OutFault (O.faults out.old) (O.faults out.new) result }
     ensures same_src { S.made src.new ≡ S.made src.old }
     ensures same_out { O.made out.new ≡ O.made out.old }
 {
     let mut reader = TraceReader::new(alloc)?;
-    let mut buf = room(alloc, DATAGRAM_MAX)?;
+    let mut buf = DatagramBuffer::new(alloc)?;
     let mut lines = String::new(alloc);
     let broken = read_lines(&mut reader, src, &mut buf, &mut lines, out)?;
-    print_end(broken, &mut lines, out)?;
+    print_end(alloc, broken, &mut lines, out)?;
     Ok(broken)
 }

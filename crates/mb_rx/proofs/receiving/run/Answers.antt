@@ -1,6 +1,6 @@
 use Rattle.std.proofs.Common.{Bool, cond, Ok, sym, ap, ◌∙◌, Err}
 use Rattle.std.proofs.lemmas.Result.{err_from_is_err_and}
-use Rattle.mb_base.specs.declared.outcome.Status.TheVariants as status
+use Rattle.mb_base.specs.Status.TheVariants as status
 use Rattle.mb_rx.proofs.Making.{Stops-memory, Does-line}
 use Rattle.mb_rx.proofs.RunLemmas.{from_fresh, run-unheard, run-ended, run-unended, run-broken, run-unbroken, no_air_fault}
 use Rattle.mb_rx.proofs.receiving.run.Goals as goal

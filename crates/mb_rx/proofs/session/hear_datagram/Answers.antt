@@ -1,5 +1,5 @@
 use Rattle.std.proofs.lemmas.Result.{err_from_is_err_and}
-use Rattle.mb_base.specs.declared.outcome.Status.TheVariants as status
+use Rattle.mb_base.specs.Status.TheVariants as status
 use Rattle.mb_rx.proofs.Making.{Does-stopped, Stops-memory}
 use Rattle.mb_rx.proofs.session.hear_datagram.Goals as goal
 

@@ -10,7 +10,7 @@ returns-in_err-hear_datagram-in-Datagram-clause-hears g c =
     let p = err_from_is_err_and c.from_residual.result c.from_residual.ensures.1 in
     hears-stopped c.args.words.now _ _ _ _ _ _ _ _ p.0 c.from_residual.result
     (Hears-datagram c.args.words.now.until c.in-Datagram.at c.in-Datagram.len _ _ _ c.in-Datagram.ensures.heard)
-    p.1 p.2 (sym c.is_closed.ensures ∙ c.if-is_closed.false) c.in_err-hear_datagram-in-Datagram.ensures.made
+    c.in-Datagram.ensures.within.0 p.1 p.2 (sym c.is_closed.ensures ∙ c.if-is_closed.false) (rw c.front.ensures at c.in_err-hear_datagram-in-Datagram.ensures.made)
 
 pub returns-in_ok-hear_datagram-in-Datagram-clause-hears :
     goal.returns-in_ok-hear_datagram-in-Datagram-clause-hears
@@ -18,10 +18,11 @@ returns-in_ok-hear_datagram-in-Datagram-clause-hears g c = record {
   records = record { at = c.in-Datagram.at; bytes = _ } ∷ [];
   taken = Hears-datagram c.args.words.now.until c.in-Datagram.at c.in-Datagram.len _ _ _ c.in-Datagram.ensures.heard;
   one = omega arith;
+  in_time = (c.in-Datagram.ensures.within.0, tt);
   asked = sym c.is_closed.ensures ∙ c.if-is_closed.false;
   failed = tt;
-  heard = (refl, c.in_ok-hear_datagram-in-Datagram.ensures.heard);
-  played = c.in_ok-hear_datagram-in-Datagram.ensures.made;
+  heard = (refl, (rw c.front.ensures at c.in_ok-hear_datagram-in-Datagram.ensures.heard));
+  played = (rw c.front.ensures at c.in_ok-hear_datagram-in-Datagram.ensures.made);
 }
 
 pub returns-in-Quiet-clause-hears : goal.returns-in-Quiet-clause-hears
@@ -38,6 +39,7 @@ returns-in-Failed-clause-hears g c = record {
   records = [];
   taken = Hears-failed c.args.words.now.until c.next.new.buf _ _ c.in-Failed.ensures.heard;
   one = omega arith;
+  in_time = tt;
   asked = sym c.is_closed.ensures ∙ c.if-is_closed.false;
   failed = λ air. sym c.is_closed.ensures ∙ c.if-is_closed.false;
   heard = tt;

@@ -10,7 +10,6 @@ returns-in_err-buf-clause-listens g c =
 
 pub loop-datagrams-init : goal.loop-datagrams-init
 loop-datagrams-init g c = record {
-  room = c.in_ok-buf.ensures;
   heard = so_far-none c.args.words.now _ _ _;
   air_later = omega arith;
   same_air = refl;
@@ -29,7 +28,6 @@ loop-datagrams-preserved g c =
     let kept = c.loop-datagrams.invariant in
     let next = c.in_ok-ending.ensures in
     record {
-      room = kept.room;
       heard = so_far-next c.args.words.now c.loop-datagrams.datagrams _ _ _ _ _ _ _ _ _ kept.heard (heard_on _ _ _ _ _ _ _ c.in_ok-ending.field-0 c.in_default.is next.hears);
       air_later = omega (arith, kept.air_later, next.air_later);
       same_air = next.same_air ∙ kept.same_air;

@@ -5,7 +5,6 @@ use Rattle.mb_rx.proofs.session.listen.Given as goal
 
 abbrev pub invariant-loop-datagrams : goal.invariant-loop-datagrams
 invariant-loop-datagrams g l = record {
-  room : vec_len l.buf ≡ 65535;
   heard : IsHeardSoFar l.words l.datagrams (g.A.Air.broadcast l.initial.air) (g.A.Air.broadcast l.air) l.initial.table l.table
       (outputs (g.S.Store.files l.initial.store) (g.S.Store.faults l.initial.store) (g.O.Sink.written l.initial.out) (g.O.Sink.faults l.initial.out))
       (outputs (g.S.Store.files l.store) (g.S.Store.faults l.store) (g.O.Sink.written l.out) (g.O.Sink.faults l.out));

@@ -1,6 +1,6 @@
 use Rattle.std.proofs.Common.{◌∙◌}
 use Rattle.std.proofs.lemmas.Result.{err_from_is_err_and}
-use Rattle.mb_base.specs.declared.outcome.Status.TheVariants as status
+use Rattle.mb_base.specs.Status.TheVariants as status
 use Rattle.mb_rx.proofs.Making.{Does-stopped, Stops-memory, Does-events, Does-line}
 use Rattle.mb_rx.proofs.HeardLemmas.{heard_instance, heard_bad_instance, heard_place, heard_file}
 use Rattle.mb_rx.proofs.session.make_events.Goals as goal

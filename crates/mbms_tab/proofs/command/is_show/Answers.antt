@@ -5,5 +5,5 @@ use Rattle.mbms_tab.proofs.command.is_show.Goals as goal
 
 pub returns : goal.returns
 returns c =
-    shown_words c.args.words.now c.word-item.result c.as_str.result.now c.eq.result c.in-len1.len_at_least c.in-len1.len_below c.word-item.is c.as_str.ensures.value
+    shown_words c.args.arguments.now c.name-item.result c.as_str.result.now c.eq.result c.in-len1.len_at_least c.in-len1.len_below c.name-item.is c.as_str.ensures.value
     (slice_eq-Decides Decides-eqb _ _ c.eq.result c.eq.ensures)

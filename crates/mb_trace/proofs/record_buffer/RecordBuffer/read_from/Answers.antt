@@ -1,5 +1,5 @@
 use Rattle.std.proofs.Common.{ℕ, List, ◌++◌, ◌≤◌, take, length, ap, ◌∙◌, arith}
-use Rattle.mb_trace.proofs.BufferLemmas.{read-kept, read-grown, Stays-read, Stays-kept}
+use Rattle.mb_trace.proofs.BufferLemmas.{read-kept, read-grown, Stays-read, Stays-kept, OnErr-always}
 use Rattle.mb_trace.proofs.record_buffer.RecordBuffer.read_from.Goals as goal
 
 pub returns-in_err-count-clause-kept : goal.returns-in_err-count-clause-kept
@@ -8,6 +8,15 @@ returns-in_err-count-clause-kept g c =
     let room = c.deref_mut.ensures in
     let within : h.end ≤ length c.deref_mut.result.now = omega arith in
     Stays-kept _ _ _ _ c.in_err-count.ensures.kept
+    (read-kept h.bytes c.deref_mut.result.now c.read.new.buf h.start h.end room.value room.len h.ordered within (omega arith)
+    ∙ c.move_to_front.ensures.bytes)
+
+pub returns-in_err-count-clause-failed : goal.returns-in_err-count-clause-failed
+returns-in_err-count-clause-failed g c =
+    let h = c.move_to_front.new.self in
+    let room = c.deref_mut.ensures in
+    let within : h.end ≤ length c.deref_mut.result.now = omega arith in
+    OnErr-always c.from_residual.result _
     (read-kept h.bytes c.deref_mut.result.now c.read.new.buf h.start h.end room.value room.len h.ordered within (omega arith)
     ∙ c.move_to_front.ensures.bytes)
 

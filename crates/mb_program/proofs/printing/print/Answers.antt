@@ -1,5 +1,5 @@
-use Rattle.mbms_tab.proofs.ShowLemmas.{PrintsPart-take}
-use Rattle.mbms_tab.proofs.printing.print.Goals as goal
+use Rattle.mb_program.proofs.PrintLemmas.{PrintsPart-take}
+use Rattle.mb_program.proofs.printing.print.Goals as goal
 
 pub returns-in-Err-clause-printed : goal.returns-in-Err-clause-printed
 returns-in-Err-clause-printed g c =
