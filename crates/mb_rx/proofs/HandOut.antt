@@ -15,8 +15,8 @@ use Rattle.mb_alc.specs.Words.{kind_of}
 use Rattle.mb_rx.specs.declared.table.Heard.{Heard}
 use Rattle.mb_rx.specs.declared.table.Heard.TheVariants.{Nothing, Instance, BadInstance, File}
 use Rattle.mb_rx.specs.declared.lives.Report.{Report}
-use Rattle.mb_fdt.specs.declared.fdt.Fdt.{Fdt}
-use Rattle.mb_fdt.specs.declared.fdt.FdtFault.{FdtFault}
+use Rattle.mb_fdt_text.specs.declared.fdt.Fdt.{Fdt}
+use Rattle.mb_fdt_text.specs.declared.fdt.FdtFault.{FdtFault}
 use Rattle.mb_rx.specs.Lines as line
 use Rattle.mb_rx.specs.Heard.{IsFileOf, IsHeard}
 use Rattle.mb_rx.proofs.LivesLemmas.{life_of-at, lives_seen-set}

@@ -12,7 +12,7 @@ use Rattle.mb_rx.specs.declared.table.Heard.{Heard}
 use Rattle.mb_rx.specs.declared.table.Heard.TheVariants.{Instance, BadInstance, File}
 use Rattle.mb_rx.specs.declared.lives.Life.{Life}
 use Rattle.mb_rx.specs.declared.lives.Report.{Report}
-use Rattle.mb_fdt.specs.declared.fdt.FdtFault.{FdtFault}
+use Rattle.mb_fdt_text.specs.declared.fdt.FdtFault.{FdtFault}
 
 pub heard_instance : (s : Session) (r : receiver.Receiver) (heard : Heard) (id : ℕ) (report : Report) → heard ≡ Instance id report → IsHeard s r heard
     → Line (line.instance id report) ∷ [] ≡ s.events

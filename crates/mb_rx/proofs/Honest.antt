@@ -6,10 +6,10 @@ use Rattle.std.proofs.lemmas.Grind.{common_steps}
 use Rattle.std.proofs.lemmas.List.{take_all, take_at}
 use Rattle.mb_base.specs.Broadcast.{Record}
 use Rattle.mb_geom.specs.Description.{Description, same_description}
-use Rattle.mb_fdt.specs.declared.fdt.Fdt.{Fdt}
-use Rattle.mb_fdt.specs.declared.fdt.FileEntry.{FileEntry}
-use Rattle.mb_fdt.specs.declared.fdt.FileFault.{FileFault}
-use Rattle.mb_fdt.specs.declared.fdt.FdtFault.{FdtFault}
+use Rattle.mb_fdt_text.specs.declared.fdt.Fdt.{Fdt}
+use Rattle.mb_fdt_text.specs.declared.fdt.FileEntry.{FileEntry}
+use Rattle.mb_fdt_text.specs.declared.fdt.FileFault.{FileFault}
+use Rattle.mb_fdt_text.specs.declared.fdt.FdtFault.{FdtFault}
 use Rattle.mb_fdt.specs.Reader.{fdt_of}
 use Rattle.mb_alc.specs.Packet.{Packet, Body, packet_of}
 use Rattle.mb_alc.specs.Words.{kind_word, kinds}

@@ -1,8 +1,8 @@
 -- The lines that the receiver prints. Each ends with a line feed, numbers are decimal without leading zeros.
 use Rattle.std.specs.Prelude.{ℕ, ◌/◌, ◌%◌, ◌==◌, ◌+◌, ◌||◌, nat_lt, if◌then◌else◌, List, [], ◌∷◌, ◌++◌, flat_map, codes, decimal}
-use Rattle.mb_fdt.specs.declared.fdt.FdtFault.{FdtFault}
-use Rattle.mb_fdt.specs.declared.fdt.FdtKind.{FdtKind}
-use Rattle.mb_fdt.specs.declared.fdt.FdtKind.TheVariants.{NotUtf8, Syntax, Forbidden, Depth, NoExpires, BadExpires, RepeatedAttribute, TooManyFiles}
+use Rattle.mb_fdt_text.specs.declared.fdt.FdtFault.{FdtFault}
+use Rattle.mb_fdt_text.specs.declared.fdt.FdtKind.{FdtKind}
+use Rattle.mb_fdt_text.specs.declared.fdt.FdtKind.TheVariants.{NotUtf8, Syntax, Forbidden, Depth, NoExpires, BadExpires, RepeatedAttribute, TooManyFiles}
 use Rattle.mb_rx.specs.declared.cause.Cause.{Cause}
 use Rattle.mb_rx.specs.declared.cause.Cause.TheVariants.{Quiet, Ended, Closed, Limit}
 use Rattle.mb_rx.specs.declared.lives.Report.{Report}

@@ -5,10 +5,10 @@ use Rattle.mb_base.specs.Broadcast.{Record}
 use Rattle.mb_geom.specs.Description.{Description, plain, equations, same_description}
 use Rattle.mb_geom.specs.declared.desc.Scheme.{Scheme}
 use Rattle.mb_geom.specs.declared.desc.Scheme.TheVariants.{NoCode, Raptor}
-use Rattle.mb_fdt.specs.declared.fdt.Fdt.{Fdt}
-use Rattle.mb_fdt.specs.declared.fdt.FileEntry.{FileEntry}
-use Rattle.mb_fdt.specs.declared.fdt.FileFault.{FileFault}
-use Rattle.mb_fdt.specs.declared.fdt.FdtFault.{FdtFault}
+use Rattle.mb_fdt_text.specs.declared.fdt.Fdt.{Fdt}
+use Rattle.mb_fdt_text.specs.declared.fdt.FileEntry.{FileEntry}
+use Rattle.mb_fdt_text.specs.declared.fdt.FileFault.{FileFault}
+use Rattle.mb_fdt_text.specs.declared.fdt.FdtFault.{FdtFault}
 use Rattle.mb_fdt.specs.Reader.{fdt_of}
 use Rattle.mb_alc.specs.Packet.{Packet, Body, packet_of}
 use Rattle.mb_alc.specs.Words.{kind_of}

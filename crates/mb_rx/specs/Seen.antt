@@ -2,7 +2,7 @@
 use Rattle.std.specs.Prelude.{◌≡◌, ℕ, zero, suc, ◌<◌, ◌==◌, true, false, List, [], ◌∷◌, length, map, slice_set, Some, None, Result, Ok, Err, ⊤}
 use Rattle.std.specs.List.{AllByRecursion}
 use Rattle.mb_alc.specs.Packet.{Body}
-use Rattle.mb_alc.specs.Seen.{body_seen}
+use Rattle.mb_alc.specs.PacketView.{body_seen}
 use Rattle.mb_rx.specs.Form as form
 use Rattle.mb_rx.specs.Receiver as receiver
 use Rattle.mb_rx.specs.declared.form.Form.{Form}

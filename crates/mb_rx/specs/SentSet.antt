@@ -4,8 +4,8 @@ use Rattle.std.specs.List.{AllByRecursion}
 use Rattle.mb_base.specs.Broadcast.{Record}
 use Rattle.mb_base.specs.Files.{File}
 use Rattle.mb_geom.specs.Description.{Description}
-use Rattle.mb_fdt.specs.declared.fdt.Fdt.{Fdt}
-use Rattle.mb_fdt.specs.declared.fdt.FileFault.{FileFault}
+use Rattle.mb_fdt_text.specs.declared.fdt.Fdt.{Fdt}
+use Rattle.mb_fdt_text.specs.declared.fdt.FileFault.{FileFault}
 use Rattle.mb_fdt.specs.Reader.{fdt_of}
 use Rattle.mb_alc.specs.Packet.{Packet, packet_of}
 use Rattle.mb_alc.specs.declared.packet.Fti.{Fti}

@@ -1,6 +1,6 @@
 ghost use Rattle.std.specs.Prelude.{◌≡◌, ◌==◌, ◌&&◌, if◌then◌else◌, None};
 ghost use Rattle.std.specs.Option.{option_map};
-ghost use Rattle.mb_alc.specs.Seen.{body_seen};
+ghost use Rattle.mb_alc.specs.PacketView.{body_seen};
 ghost use Rattle.mb_rx.specs.Form as form;
 ghost use Rattle.mb_rx.specs.Seen.{form_seen};
 

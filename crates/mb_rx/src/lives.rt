@@ -2,7 +2,7 @@ ghost use Rattle.std.specs.Prelude.{◌≡◌, ℕ, ◌≤◌, ◌<◌, ◌^◌,
 ghost use Rattle.std.specs.List.{list_all};
 ghost use Rattle.mb_geom.specs.Description.{plain, equations};
 ghost use Rattle.mb_rx.specs.Receiver.{object_reason, needed, is_full, lives_most, entered, is_no_code, is_built, is_received, life_of, with_description, with_entry, with_instance};
-ghost use Rattle.mb_alc.specs.Seen.{body_seen};
+ghost use Rattle.mb_alc.specs.PacketView.{body_seen};
 ghost use Rattle.mb_rx.specs.Seen.{life_seen, lives_seen, HandsOut, AreApart};
 
 use crate::drops::Reason;

@@ -1,5 +1,5 @@
 ghost use Rattle.std.specs.Prelude.{◌≡◌, ◌<◌, ◌≤◌, ◌==◌, [], Some, None, ◌||◌, max, length, option_map, IfOk, Ok, slice_index_or};
-ghost use Rattle.mb_alc.specs.Seen.{packet_seen};
+ghost use Rattle.mb_alc.specs.PacketView.{packet_seen};
 ghost use Rattle.mb_rx.specs.Receiver.{closes};
 
 use crate::drops::{Drops, Reason};
@@ -66,7 +66,7 @@ impl Model for Table {
 
 impl Table {
     ghost use Rattle.mb_rx.specs.Receiver.{fresh, refuse_for, drop_for, no_text, is_instance_built, hear_text, hear_fdt, hear_symbols, hear_form, hear_in_session, hear_packet, object_reason, life_of};
-    ghost use Rattle.mb_alc.specs.Seen.{body_seen};
+    ghost use Rattle.mb_alc.specs.PacketView.{body_seen};
     ghost use Rattle.mb_rx.specs.Run.{after_step, after_record};
     ghost use Rattle.mb_rx.specs.Seen.{life_seen, lives_seen, form_seen};
     ghost use Rattle.mb_rx.specs.Heard.{IsHeard};

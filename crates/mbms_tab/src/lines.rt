@@ -1,5 +1,5 @@
 ghost use Rattle.std.specs.Prelude.{◌≡◌, ◌++◌, Some, OnOk, string_bytes};
-ghost use Rattle.mb_alc.specs.Seen.{packet_seen};
+ghost use Rattle.mb_alc.specs.PacketView.{packet_seen};
 ghost use Rattle.mbms_tab.specs.Lines as line;
 ghost use Rattle.mbms_tab.specs.Show.{break_text};
 

@@ -1,6 +1,6 @@
 use Rattle.std.proofs.Common.{◌≡◌, ◌||◌, Bool, [], max, Result, sym, ap, subst, ◌∙◌}
 use Rattle.mb_alc.specs.Packet.{Packet, packet_of}
-use Rattle.mb_alc.specs.Seen.{packet_seen}
+use Rattle.mb_alc.specs.PacketView.{packet_seen}
 use Rattle.mb_alc.specs.declared.fault.PacketFault.{PacketFault}
 use Rattle.mb_rx.specs.Receiver as receiver
 use Rattle.mb_rx.specs.Run.{after_step}

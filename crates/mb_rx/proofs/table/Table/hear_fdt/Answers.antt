@@ -15,7 +15,7 @@ returns-in-Err c =
     let seen = receiver_of inside.clock inside.closed inside.described inside.lives.items inside.faults inside.drops in
     let is_seen : seen ≡ now = c.self.view_is in
     let undescribed : now.described ≡ false = ap (λ (r : receiver.Receiver). r.described) (sym is_seen) ∙ c.if-self.false in
-    let read : fdt_of c.args.text.now ≡ Err fault = sym c.in_ok-fdt.ensures ∙ c.in-Err.is in
+    let read : fdt_of c.args.text.now ≡ Err fault = sym c.in_ok-fdt.ensures.exact ∙ c.in-Err.is in
     let heard : receiver.hear_fdt now id c.args.text.now ≡ receiver.hear_text now id (Err fault) = rw (undescribed, read) refl in
     let made : receiver.Receiver → Session = λ r. record { receiver = r; events = Line (line.bad_instance id fault) ∷ [] } in
     ap (λ (s : receiver.Stepped). after_step [] s) heard

@@ -7,7 +7,7 @@ use Rattle.mb_rx.specs.Seen.{lives_seen, AreApart, IsHandedOut}
 use Rattle.mb_alc.specs.Packet.{Body}
 use Rattle.mb_rx.proofs.ApartLemmas.{apart-set, toi-at}
 use Rattle.mb_rx.specs.declared.lives.Life.{Life}
-use Rattle.mb_alc.specs.Seen.{body_seen}
+use Rattle.mb_alc.specs.PacketView.{body_seen}
 use Rattle.mb_rx.proofs.HandOut.{receiver_of, hear_symbols-made}
 use Rattle.mb_rx.proofs.table.Table.hear_symbols.Goals as goal
 
