@@ -1,8 +1,8 @@
 //! What `receive` prints, stores and answers over objects in memory.
 use super::*;
 use mb_base::{
-    Air, AirEvent, DATAGRAM_MAX, DatagramBuffer, ListChance, MemLinks, MemSink, MemSource, MemStore, Memory,
-    OpenGate, Status, TraceAir, put_be32, trace_bytes,
+    Air, AirEvent, DATAGRAM_MAX, DatagramBuffer, ListChance, MemLinks, MemSink, MemSource,
+    MemStore, Memory, OpenGate, Status, TraceAir, put_be32, trace_bytes,
 };
 use std::alloc::Global;
 use std::process::Abort;

@@ -10,7 +10,7 @@ returns-in_ok-push_record-in-Datagram-clause-next g c = (
   record { at = c.in-Datagram.at; bytes = take c.in-Datagram.len c.next.new.buf },
   taken-datagram 18446744073709551615 c.in-Datagram.at c.in-Datagram.len c.next.new.buf _ _ (c.in-Datagram.ensures.heard None) c.in-Datagram.ensures.given,
   c.in_ok-push_record-in-Datagram.ensures
-  ∙ ap (λ (datagram : List ℕ). string_bytes c.args.lines.now ++ record_line (record { at = c.in-Datagram.at; bytes = datagram })) c.front.ensures,
+      ∙ ap (λ (datagram : List ℕ). string_bytes c.args.lines.now ++ record_line (record { at = c.in-Datagram.at; bytes = datagram })) c.front.ensures,
 )
 
 pub returns-in-Failed-clause-next : goal.returns-in-Failed-clause-next
