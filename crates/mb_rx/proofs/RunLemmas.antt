@@ -15,7 +15,7 @@ use Rattle.mb_rx.specs.declared.session.Listened.{Listened}
 use Rattle.mb_program.specs.Lines as program
 use Rattle.mb_program.specs.Printing as printing
 use Rattle.mb_rx.specs.Receiver.{Receiver, fresh}
-use Rattle.mb_rx.specs.Run.{Event, Put, Line, Ask, Session, session, end_events, is_complete}
+use Rattle.mb_rx.specs.Run.{Event, Line, Session, session, end_events, is_complete}
 use Rattle.mb_rx.specs.Receive.{Outputs, outputs, Makes, Stops, IsEnding, IsRun, Leaves, Receives, Refuses, events_by, known_of, ClosesBy, is_closed, TakesWhileOpen, AreInTime, datagrams_most}
 use Rattle.mb_rx.specs.Listening.{Plays, Listens, after_records, TakenOpen}
 use Rattle.mb_rx.specs.Outcome.{Runs}

@@ -1,14 +1,14 @@
 -- How the parts of showing a trace join.
-use Rattle.std.proofs.Common.{◌≡◌, ℕ, ◌<◌, ◌≤◌, ◌+◌, ◌-◌, Bool, cond, true, false, List, [], ◌∷◌, ◌++◌, take, drop, length, map, get_or, Option, Some, None, Result, Ok, Err, refl, sym, ap, ap₂, subst, ◌∙◌, string_bytes, Global, codes, append_assoc, append-nil, length-append, arith}
+use Rattle.std.proofs.Common.{◌≡◌, ℕ, ◌<◌, ◌≤◌, ◌+◌, ◌-◌, Bool, cond, true, false, List, [], ◌∷◌, ◌++◌, take, length, map, get_or, Option, Some, None, Result, Ok, Err, refl, sym, ap, ap₂, subst, ◌∙◌, string_bytes, Global, codes, append_assoc, append-nil, length-append, arith}
 use Rattle.std.specs.Prelude.{IsTrue, String, nat_lt, option_map}
 use Rattle.std.specs.Bool.{Decides}
-use Rattle.std.proofs.lemmas.List.{take-append-drop, take_at, drop_at, take_all, length-take}
+use Rattle.std.proofs.lemmas.List.{take_at, drop_at, take_all, length-take}
 use Rattle.std.proofs.lemmas.Bool.{lt-ltb, le-ltb}
 use Rattle.std.proofs.lemmas.Grind.{flat_map-append}
 use Rattle.std.proofs.Math.Seq.{take-add}
 use Rattle.mb_base.specs.Outside.{Grows, Becomes, Stays}
 use Rattle.mb_base.specs.Broadcast.{Record, Broadcast, Hears, Takes, IsOver}
-use Rattle.mb_base.specs.Trace.{trace_broadcast, bytes_ahead, has_record, records_of, AreRecords, Gives}
+use Rattle.mb_base.specs.Trace.{trace_broadcast, bytes_ahead, has_record, records_of, Gives}
 use Rattle.mb_base.proofs.TraceLemmas.{records_of-none}
 use Rattle.mb_base.specs.AirEvent.TheVariants.{Datagram, Failed}
 use Rattle.mb_base.specs.Status.{Status}

@@ -1,5 +1,5 @@
 -- What the form `show` prints of a trace, and what each status of it says.
-use Rattle.std.specs.Prelude.{◌≡◌, ℕ, ◌≤◌, nat_lt, if◌then◌else◌, List, [], ◌∷◌, ◌++◌, length, take, Option, Some, None, codes, ⊤}
+use Rattle.std.specs.Prelude.{◌≡◌, ℕ, ◌≤◌, nat_lt, if◌then◌else◌, List, [], ◌++◌, length, take, Option, Some, None, ⊤}
 use Rattle.mb_base.specs.Outside.{Grows, Becomes}
 use Rattle.mb_base.specs.Broadcast.{Record}
 use Rattle.mb_base.specs.Trace.{records_of, told_place}

@@ -1,5 +1,5 @@
 -- What the parts of showing a trace do.
-use Rattle.std.specs.Prelude.{◌≡◌, ℕ, ◌≤◌, Bool, true, false, nat_lt, if◌then◌else◌, List, [], ◌∷◌, ◌++◌, length, take, Option, Some, None, Result, Ok, Err, OnOk, option_map, ⊤}
+use Rattle.std.specs.Prelude.{◌≡◌, ℕ, ◌≤◌, Bool, true, false, nat_lt, if◌then◌else◌, List, [], ◌∷◌, ◌++◌, length, take, Option, Some, None, Result, Ok, Err, option_map, ⊤}
 use Rattle.mb_base.specs.Outside.{Grows, Becomes, Stays}
 use Rattle.mb_base.specs.Broadcast.{Record, Broadcast, Takes, IsOver}
 use Rattle.mb_base.specs.Trace.{trace_broadcast, bytes_ahead, has_record, AreRecords}

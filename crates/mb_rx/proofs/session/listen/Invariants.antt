@@ -1,4 +1,4 @@
-use Rattle.std.proofs.Common.{◌≡◌, ◌≤◌, vec_len}
+use Rattle.std.proofs.Common.{◌≡◌, ◌≤◌}
 use Rattle.mb_rx.specs.Receive.{outputs}
 use Rattle.mb_rx.specs.Listening.{IsHeardSoFar}
 use Rattle.mb_rx.proofs.session.listen.Given as goal
