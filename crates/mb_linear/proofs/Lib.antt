@@ -1,0 +1,5 @@
+pub mod RowLemmas
+pub mod SpanLemmas
+pub mod Elimination
+pub mod Deciding
+pub mod Independence
