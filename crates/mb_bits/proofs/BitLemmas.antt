@@ -124,10 +124,10 @@ pub lowest_is_first : (words : List ℕ) (at low : ℕ) → at < length words �
 lowest_is_first words at low w z l s b =
     let word : (64 * at + low) / 64 ≡ at = omega arith in
     let bit : (64 * at + low) % 64 ≡ low = omega arith in record {
-  within = omega arith;
-  set = ap₂ (λ (k j : ℕ). bit_at (slice_index words k) j == 1) word bit ∙ ap (λ (x : ℕ). x == 1) s;
-  none_before = λ i p. first_below words at low z l b i p (order (i / 64) at);
-}
+      within = omega arith;
+      set = ap₂ (λ (k j : ℕ). bit_at (slice_index words k) j == 1) word bit ∙ ap (λ (x : ℕ). x == 1) s;
+      none_before = λ i p. first_below words at low z l b i p (order (i / 64) at);
+    }
 
 -- one word with one bit turned over
 flip_others : (words : List ℕ) (place i : ℕ) → place / 64 < length words → i ≢ place

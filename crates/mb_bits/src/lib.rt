@@ -1,6 +1,8 @@
 //! Rows of bits in words, which contracts see as lists of bits, and sums of bytes: where the time of the code goes.
 #![tactic(auto)]
 
+#[cfg(test)]
+mod bits_tests;
 mod row;
 mod xor;
 
