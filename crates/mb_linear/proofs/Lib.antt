@@ -3,3 +3,4 @@ pub mod SpanLemmas
 pub mod Elimination
 pub mod Deciding
 pub mod Independence
+pub mod EchelonLemmas

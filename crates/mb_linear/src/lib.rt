@@ -4,4 +4,4 @@
 
 mod laws;
 
-pub use laws::{rows_are_few, rows_follow};
+pub use laws::{rows_are_few, rows_are_reduced, rows_follow};
