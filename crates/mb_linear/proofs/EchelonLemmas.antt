@@ -1,10 +1,10 @@
 -- What is left of a row that was reduced tells whether it is a sum.
-use Rattle.std.proofs.Common.{◌≡◌, ℕ, zero, suc, ◌+◌, ◌<◌, ◌≤◌, Bool, true, false, not, ◌&&◌, List, [], ◌∷◌, ◌++◌, length, slice_index_or, refl, ap, ap₂, sym, subst, ◌∙◌, arith}
+use Rattle.std.proofs.Common.{◌≡◌, ℕ, zero, suc, Bool, true, false, List, [], ◌∷◌, ◌++◌, length, refl, ap, ap₂, sym, subst, ◌∙◌, arith}
 use Rattle.std.specs.List.{AllByRecursion}
 use Rattle.mb_linear.specs.Row.{plus, row_sum, zeros, added_if, chosen_sum, AreRows}
 use Rattle.mb_linear.specs.Span.{IsSumOf, IsNothing, AreIndependent}
 use Rattle.mb_linear.specs.Echelon.{has_place, IsEchelon, reduced, added_rows}
-use Rattle.mb_linear.proofs.RowLemmas.{plus_self, plus_comm, plus_none, length_zeros, length_row_sum, length_added_if, length_chosen_sum, zeros_left, zeros_right, sum_comm, sum_assoc, sum_twice, sum_self}
+use Rattle.mb_linear.proofs.RowLemmas.{length_added_if, length_chosen_sum, zeros_left, zeros_right, sum_comm, sum_assoc, sum_twice}
 use Rattle.mb_linear.proofs.SpanLemmas.{sum_of_sums, same_is_sum}
 
 -- ---- places of sums

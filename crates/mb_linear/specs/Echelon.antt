@@ -1,7 +1,7 @@
 -- Rows that are kept reduced: each has a place of its own, its pivot, which no later one has set.
-use Rattle.std.specs.Prelude.{◌≡◌, ℕ, ◌<◌, Bool, true, false, List, [], ◌∷◌, length, slice_index_or, ⊤}
+use Rattle.std.specs.Prelude.{◌≡◌, ℕ, Bool, true, false, List, [], ◌∷◌, slice_index_or, ⊤}
 use Rattle.std.specs.List.{AllByRecursion}
-use Rattle.mb_linear.specs.Row.{row_sum, added_if}
+use Rattle.mb_linear.specs.Row.{added_if}
 
 -- whether the row has the place set
 abbrev pub has_place : List Bool → ℕ → Bool

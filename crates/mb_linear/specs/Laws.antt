@@ -1,5 +1,5 @@
 -- What holds of all rows.
-use Rattle.std.specs.Prelude.{◌++◌, ◌≡◌, ◌↔◌, ◌⊎◌, ℕ, ◌≤◌, Bool, true, List, ◌∷◌, length}
+use Rattle.std.specs.Prelude.{[], ◌∷◌, ◌++◌, ◌≡◌, ◌↔◌, ◌⊎◌, ℕ, ◌≤◌, Bool, true, List, ◌∷◌, length}
 use Rattle.std.specs.List.{AllByRecursion}
 use Rattle.mb_linear.specs.Row.{row_sum, zeros, chosen_sum, value_over, AreRows}
 use Rattle.mb_linear.specs.Span.{IsSumOf, Solves, IsDetermined, AreIndependent}
