@@ -45,6 +45,7 @@ pub fn add_row(sum: &mut [u64], row: &[u64], first_word: usize)
 pub fn first_bit(words: &[u64]) -> Option<usize>
     requires { 64 * length words.now < 2 ^ 64 }
     ensures first { IfSome result (λ place. IsFirst words.now place) }
+    ensures words { IfSome result (λ place. (k : ℕ) → k < place / 64 → slice_index words.now k ≡ 0) }
     ensures none { IfNone result ((i : ℕ) → bit_in words.now i ≡ false) }
 {
     for i in 0..words.len() {
