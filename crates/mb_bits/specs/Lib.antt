@@ -1,0 +1,2 @@
+pub mod BitRow
+pub mod Xor

@@ -1,0 +1,6 @@
+pub mod RowLemmas
+pub mod SpanLemmas
+pub mod Elimination
+pub mod Deciding
+pub mod Independence
+pub mod EchelonLemmas

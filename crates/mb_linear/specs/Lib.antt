@@ -1,0 +1,4 @@
+pub mod Row
+pub mod Span
+pub mod Echelon
+pub mod Laws
