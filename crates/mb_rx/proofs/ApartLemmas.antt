@@ -4,7 +4,7 @@ use Rattle.std.specs.List.{AllByRecursion, position_or_len}
 use Rattle.std.proofs.lemmas.Grind.{common_steps}
 use Rattle.std.proofs.lemmas.Bool.{eqb-true}
 use Rattle.std.proofs.lemmas.Bool.Decides.{nat_tests}
-use Rattle.mb_rx.specs.Seen.{AreApart, IsLifeAt}
+use Rattle.mb_rx.specs.ValueView.{AreApart, IsLifeAt}
 use Rattle.mb_rx.specs.declared.lives.Life.{Life}
 
 -- the life differs from each of these

@@ -3,7 +3,7 @@ use Rattle.std.proofs.Common.{◌≡◌, ◌<◌, ℕ, zero, suc, ◌||◌, Bool
 use Rattle.std.proofs.lemmas.Grind.{common_steps}
 use Rattle.mb_rx.specs.Receiver as receiver
 use Rattle.mb_rx.specs.Run.{Event, Line, Session, after_step, hand_out_events, put_events}
-use Rattle.mb_rx.specs.Seen.{IsLifeAt, IsHandedOut, life_seen, lives_seen}
+use Rattle.mb_rx.specs.ValueView.{IsLifeAt, IsHandedOut, life_seen, lives_seen}
 use Rattle.mb_rx.specs.declared.lives.Life.{Life}
 use Rattle.mb_rx.specs.declared.drops.Reason.{Reason}
 use Rattle.mb_rx.specs.declared.drops.Reason.TheVariants.{NotBuilt, Done}

@@ -7,7 +7,7 @@ use Rattle.std.specs.Borrow.{Bor}
 use Rattle.mb_rx.specs.Run.{Session, Line, put_events}
 use Rattle.mb_rx.specs.Lines as line
 use Rattle.mb_rx.specs.Heard.{IsHeard, IsFileOf, HasPlace}
-use Rattle.mb_rx.specs.Seen.{life_seen, lives_seen}
+use Rattle.mb_rx.specs.ValueView.{life_seen, lives_seen}
 use Rattle.mb_rx.specs.declared.table.Heard.{Heard}
 use Rattle.mb_rx.specs.declared.table.Heard.TheVariants.{Instance, BadInstance, File}
 use Rattle.mb_rx.specs.declared.lives.Life.{Life}

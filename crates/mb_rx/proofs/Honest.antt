@@ -5,7 +5,7 @@ use Rattle.std.proofs.lemmas.Bool.{eqb-true}
 use Rattle.std.proofs.lemmas.Grind.{common_steps}
 use Rattle.std.proofs.lemmas.List.{take_all, take_at}
 use Rattle.mb_base.specs.Broadcast.{Record}
-use Rattle.mb_geom.specs.Description.{Description, same_description}
+use Rattle.mb_geom.specs.Description.{Description, is_no_code, same_description}
 use Rattle.mb_fdt_text.specs.declared.fdt.Fdt.{Fdt}
 use Rattle.mb_fdt_text.specs.declared.fdt.FileEntry.{FileEntry}
 use Rattle.mb_fdt_text.specs.declared.fdt.FileFault.{FileFault}
@@ -16,7 +16,7 @@ use Rattle.mb_alc.specs.Words.{kind_word, kinds}
 use Rattle.mb_alc.specs.declared.packet.Fti.{Fti}
 use Rattle.mb_alc.specs.declared.fault.PacketFault.{PacketFault}
 use Rattle.mb_rx.specs.Form.{Form, Text, Symbols, form_by, form_with}
-use Rattle.mb_rx.specs.Receiver.{Life, Receiver, Stepped, Described, fresh, drop_for, life_of, change_life, is_full, start_life, with_description, with_entry, after_entry, empty_report, with_instance, is_no_code, is_built, is_received, is_instance_built, Instance, hear_text, hear_fdt, object_reason, hear_symbols, hear_form, hear_in_session, hear_datagram, no_text, step, is_ready, handed_out}
+use Rattle.mb_rx.specs.Receiver.{Life, Receiver, Stepped, Described, fresh, drop_for, life_of, change_life, is_full, start_life, with_description, with_entry, after_entry, empty_report, with_instance, is_built, is_received, is_instance_built, Instance, hear_text, hear_fdt, object_reason, hear_symbols, hear_form, hear_in_session, hear_datagram, no_text, step, is_ready, handed_out}
 use Rattle.mb_rx.specs.Run.{Event, Line, Session, after_record, session, count_line, fault_count, fault_lines, drop_count, drop_lines, reasons, incomplete_lines, end_events, file_of, Known}
 use Rattle.mb_rx.specs.Lines as line
 use Rattle.mb_rx.specs.SentSet.{SentSet, SentFile, IsSentEntry, IsSentText, IsHonestForm, IsHonestPacket, IsHonest, IsSentFile, symbol_of}

@@ -6,7 +6,7 @@ use Rattle.std.proofs.lemmas.Grind.{common_steps}
 use Rattle.std.proofs.lemmas.Bool.Decides.{nat_tests}
 use Rattle.std.specs.List.{position_or_len}
 use Rattle.mb_rx.specs.Receiver as receiver
-use Rattle.mb_rx.specs.Seen.{IsLifeAt, life_seen, lives_seen}
+use Rattle.mb_rx.specs.ValueView.{IsLifeAt, life_seen, lives_seen}
 use Rattle.mb_rx.specs.declared.lives.Life.{Life}
 use Rattle.mb_rx.specs.declared.lives.Entered.TheVariants.{Started, Prolonged, Conflicting, Full}
 use Rattle.mb_geom.specs.Description.{Description, same_description}

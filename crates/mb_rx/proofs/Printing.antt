@@ -9,7 +9,7 @@ use Rattle.mb_base.specs.Status.{Status}
 use Rattle.mb_base.specs.Status.TheVariants as status
 use Rattle.mb_rx.specs.Lines as line
 use Rattle.mb_rx.specs.Receiver as receiver
-use Rattle.mb_rx.specs.Seen.{life_seen, lives_seen}
+use Rattle.mb_rx.specs.ValueView.{life_seen, lives_seen}
 use Rattle.mb_rx.specs.Run.{Event, Line, count_line, incomplete_lines}
 use Rattle.mb_rx.specs.Receive.{Makes, Stops, outputs}
 use Rattle.mb_rx.specs.Steps.{Prints}

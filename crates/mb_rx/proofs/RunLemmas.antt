@@ -18,7 +18,7 @@ use Rattle.mb_rx.specs.Receiver.{Receiver, fresh}
 use Rattle.mb_rx.specs.Run.{Event, Line, Session, session, end_events, is_complete}
 use Rattle.mb_rx.specs.Receive.{Outputs, outputs, Makes, Stops, IsEnding, IsRun, Leaves, Receives, Refuses, events_by, known_of, ClosesBy, is_closed, TakesWhileOpen, AreInTime, datagrams_most}
 use Rattle.mb_rx.specs.Listening.{Plays, Listens, after_records, TakenOpen}
-use Rattle.mb_rx.specs.Outcome.{Runs}
+use Rattle.mb_rx.specs.RunResult.{Runs}
 use Rattle.mb_rx.proofs.Making.{Makes-trans, Stops-after, Stops-memory}
 use Rattle.mb_rx.proofs.ListenLemmas.{Takes-none, TakenOpen-split}
 use Rattle.mb_rx.proofs.Honest.{honest_puts}

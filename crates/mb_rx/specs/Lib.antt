@@ -5,8 +5,8 @@ pub mod Lines
 pub mod Run
 pub mod SentSet
 pub mod Receive
-pub mod Seen
+pub mod ValueView
 pub mod Steps
 pub mod Heard
 pub mod Listening
-pub mod Outcome
+pub mod RunResult

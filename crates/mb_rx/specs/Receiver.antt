@@ -2,9 +2,7 @@
 use Rattle.std.specs.Prelude.{ℕ, ◌+◌, ◌-◌, ◌^◌, ◌==◌, ◌||◌, ◌&&◌, unwrap_or, Bool, true, false, not, min, max, nat_lt, nat_le, if◌then◌else◌, List, [], ◌∷◌, ◌++◌, length, fold, sum_by, find, Option, Some, None, is_some, is_none, Result, Ok, Err}
 use Rattle.std.specs.List.{list_all}
 use Rattle.mb_base.specs.Broadcast.{Record}
-use Rattle.mb_geom.specs.Description.{Description, plain, equations, same_description}
-use Rattle.mb_geom.specs.declared.desc.Scheme.{Scheme}
-use Rattle.mb_geom.specs.declared.desc.Scheme.TheVariants.{NoCode, Raptor}
+use Rattle.mb_geom.specs.Description.{Description, plain, equations, is_no_code, same_description}
 use Rattle.mb_fdt_text.specs.declared.fdt.Fdt.{Fdt}
 use Rattle.mb_fdt_text.specs.declared.fdt.FileEntry.{FileEntry}
 use Rattle.mb_fdt_text.specs.declared.fdt.FileFault.{FileFault}
@@ -185,10 +183,6 @@ pub record Stepped : Type 0 where
 
 abbrev pub no_text : Receiver → Stepped
 no_text r = record { receiver = r; text = None }
-
-abbrev pub is_no_code : Scheme → Bool
-is_no_code (NoCode max_block) = true
-is_no_code (Raptor z n al) = false
 
 -- The files that are received today: of one symbol, under Compact No-Code, without MD5.
 abbrev pub is_built : Description → Bool

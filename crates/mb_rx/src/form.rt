@@ -2,7 +2,7 @@ ghost use Rattle.std.specs.Prelude.{◌≡◌, ◌==◌, ◌&&◌, if◌then◌e
 ghost use Rattle.std.specs.Option.{option_map};
 ghost use Rattle.mb_alc.specs.PacketView.{body_seen};
 ghost use Rattle.mb_rx.specs.Form as form;
-ghost use Rattle.mb_rx.specs.Seen.{form_seen};
+ghost use Rattle.mb_rx.specs.ValueView.{form_seen};
 
 use mb_alc::{Body, Exts, Fti, Packet};
 use mb_base::DATAGRAM_MAX;

@@ -3,13 +3,15 @@
 
 mod cause;
 mod drops;
-mod ends;
+mod end_lines;
 mod events;
 mod faults;
 mod form;
 mod laws;
 mod lines;
 mod lives;
+#[cfg(test)]
+mod longest_tests;
 #[cfg(test)]
 mod packets_tests;
 #[cfg(test)]

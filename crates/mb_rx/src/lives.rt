@@ -1,15 +1,15 @@
 ghost use Rattle.std.specs.Prelude.{◌≡◌, ℕ, ◌≤◌, ◌<◌, ◌^◌, ◌+◌, map, length, position, sum_by, ◌==◌, Option, Some, None, true, IfSome, IfOk, vec_len};
 ghost use Rattle.std.specs.List.{list_all};
 ghost use Rattle.mb_geom.specs.Description.{plain, equations};
-ghost use Rattle.mb_rx.specs.Receiver.{object_reason, needed, is_full, lives_most, entered, is_no_code, is_built, is_received, life_of, with_description, with_entry, with_instance};
+ghost use Rattle.mb_rx.specs.Receiver.{object_reason, needed, is_full, lives_most, entered, is_built, is_received, life_of, with_description, with_entry, with_instance};
 ghost use Rattle.mb_alc.specs.PacketView.{body_seen};
-ghost use Rattle.mb_rx.specs.Seen.{life_seen, lives_seen, HandsOut, AreApart};
+ghost use Rattle.mb_rx.specs.ValueView.{life_seen, lives_seen, HandsOut, AreApart};
 
 use crate::drops::Reason;
 use crate::toi::Toi;
 use mb_alc::Body;
 use mb_fdt::{FileEntries, FileEntry};
-use mb_geom::{Desc, Scheme};
+use mb_geom::Desc;
 use std::alloc::AllocError;
 
 /// How many lives stand at once at most.
@@ -210,21 +210,11 @@ fn add_file(
     Ok(Entered::Prolonged)
 }
 
-/// Whether the scheme is Compact No-Code (RFC 3695).
-fn is_no_code(scheme: Scheme) -> bool
-    ensures { result ≡ is_no_code scheme }
-{
-    match scheme {
-        Scheme::NoCode { .. } => true,
-        Scheme::Raptor { .. } => false,
-    }
-}
-
 /// Whether files under this description are received today.
 fn is_built(desc: &Desc) -> bool
     ensures { result ≡ is_built desc.now }
 {
-    is_no_code(desc.scheme())
+    desc.scheme().is_no_code()
         && desc.md5().is_none()
         && desc.length() > 0
         && desc.length() <= u64::from(desc.symbol())

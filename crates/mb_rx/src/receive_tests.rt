@@ -111,7 +111,7 @@ fn datagram_of(alloc: Global, sent: Sent<'_>) -> Result<Vec<u8>, Memory> {
                 0xc010_0001,
                 0x4004_0000,
                 len,
-                1400,
+                len.max(1400),
                 64,
                 0,
             ];

@@ -2,11 +2,11 @@ ghost use Rattle.std.specs.Prelude.{◌≡◌, ◌≢◌, ◌≤◌, map, string
 ghost use Rattle.mb_base.specs.Outside.{Rose};
 ghost use Rattle.mb_base.specs.Status.TheVariants as status;
 ghost use Rattle.mb_rx.specs.Receive.{Receives, IsRun, Refuses, outputs};
-ghost use Rattle.mb_rx.specs.Outcome.{Runs};
+ghost use Rattle.mb_rx.specs.RunResult.{Runs};
 ghost use Rattle.mb_rx.specs.Words.{words_of};
 
 use crate::cause::Ending;
-use crate::ends::print_end;
+use crate::end_lines::print_end;
 use crate::events::print;
 use crate::session::listen;
 use crate::table::Table;

@@ -4,7 +4,7 @@ ghost use Rattle.mb_base.specs.Status.TheVariants as status;
 ghost use Rattle.mb_rx.specs.Receive.{Does, outputs};
 ghost use Rattle.mb_rx.specs.Run.{Session, after_record, put_events};
 ghost use Rattle.mb_rx.specs.Heard.{IsHeard, HasPlace};
-ghost use Rattle.mb_rx.specs.Seen.{life_seen};
+ghost use Rattle.mb_rx.specs.ValueView.{life_seen};
 ghost use Rattle.mb_rx.specs.Listening as listening;
 
 use crate::cause::{Cause, DATAGRAMS_MAX, Ending};

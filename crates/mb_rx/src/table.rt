@@ -48,7 +48,7 @@ pub struct Table {
 impl Model for Table {
     ghost use Rattle.std.specs.Prelude.{◌≤◌, vec_len};
     ghost use Rattle.mb_rx.specs.Receiver.{Receiver, lives_most};
-    ghost use Rattle.mb_rx.specs.Seen.{lives_seen, AreApart};
+    ghost use Rattle.mb_rx.specs.ValueView.{lives_seen, AreApart};
 
     ghost Value = { Receiver };
 
@@ -68,7 +68,7 @@ impl Table {
     ghost use Rattle.mb_rx.specs.Receiver.{fresh, refuse_for, drop_for, no_text, is_instance_built, hear_text, hear_fdt, hear_symbols, hear_form, hear_in_session, hear_packet, object_reason, life_of};
     ghost use Rattle.mb_alc.specs.PacketView.{body_seen};
     ghost use Rattle.mb_rx.specs.Run.{after_step, after_record};
-    ghost use Rattle.mb_rx.specs.Seen.{life_seen, lives_seen, form_seen};
+    ghost use Rattle.mb_rx.specs.ValueView.{life_seen, lives_seen, form_seen};
     ghost use Rattle.mb_rx.specs.Heard.{IsHeard};
     ghost use Rattle.mb_rx.specs.declared.table.Heard.TheVariants.{Nothing};
     ghost use Rattle.mb_fdt.specs.Reader.{fdt_of};

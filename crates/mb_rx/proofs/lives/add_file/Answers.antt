@@ -3,7 +3,7 @@ use Rattle.std.proofs.lemmas.List.{map-append, get_or_default}
 use Rattle.std.proofs.lemmas.List.Quantifiers.{position-Some}
 use Rattle.mb_geom.specs.Description.{same_description}
 use Rattle.mb_rx.specs.Receiver as receiver
-use Rattle.mb_rx.specs.Seen.{life_seen, lives_seen, AreApart}
+use Rattle.mb_rx.specs.ValueView.{life_seen, lives_seen, AreApart}
 use Rattle.mb_rx.specs.declared.lives.Life.{Life}
 use Rattle.mb_rx.specs.declared.lives.Entered.TheVariants.{Started, Prolonged}
 use Rattle.mb_rx.proofs.ApartLemmas.{apart-push, apart-set}

@@ -1,6 +1,6 @@
 use Rattle.std.proofs.Common.{◌≡◌, ◌≤◌, vec_len, fold}
 use Rattle.mb_rx.specs.Receiver.{after_entry, empty_report, lives_most}
-use Rattle.mb_rx.specs.Seen.{lives_seen, AreApart}
+use Rattle.mb_rx.specs.ValueView.{lives_seen, AreApart}
 use Rattle.mb_rx.proofs.lives.add_files.Given as goal
 
 abbrev pub invariant-loop-entry : goal.invariant-loop-entry

@@ -1,7 +1,7 @@
 use Rattle.std.proofs.Common.{◌∙◌}
 use Rattle.std.proofs.lemmas.Result.{err_from_is_err_and}
 use Rattle.mb_base.specs.Status.TheVariants as status
-use Rattle.mb_rx.specs.Seen.{life_seen}
+use Rattle.mb_rx.specs.ValueView.{life_seen}
 use Rattle.mb_rx.proofs.Making.{Does-stopped, stored-unput, stored-memory, stored-printed}
 use Rattle.mb_rx.proofs.session.store_file.Goals as goal
 

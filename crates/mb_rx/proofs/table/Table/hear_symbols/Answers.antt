@@ -3,7 +3,7 @@ use Rattle.std.proofs.lemmas.Grind.{common_steps}
 use Rattle.mb_rx.specs.Receiver as receiver
 use Rattle.mb_rx.specs.Run.{after_step}
 use Rattle.mb_rx.specs.Heard.{IsFileOf}
-use Rattle.mb_rx.specs.Seen.{lives_seen, AreApart, IsHandedOut}
+use Rattle.mb_rx.specs.ValueView.{lives_seen, AreApart, IsHandedOut}
 use Rattle.mb_alc.specs.Packet.{Body}
 use Rattle.mb_rx.proofs.ApartLemmas.{apart-set, toi-at}
 use Rattle.mb_rx.specs.declared.lives.Life.{Life}

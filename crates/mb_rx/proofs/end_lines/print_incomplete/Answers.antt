@@ -1,12 +1,12 @@
 use Rattle.std.proofs.Common.{◌≡◌, ◌&&◌, Bool, true, false, List, take, sym, ap, ◌∙◌, subst, take_all}
 use Rattle.mb_rx.specs.Receive.{Makes, outputs}
 use Rattle.mb_rx.specs.Run.{incomplete_lines}
-use Rattle.mb_rx.specs.Seen.{lives_seen}
+use Rattle.mb_rx.specs.ValueView.{lives_seen}
 use Rattle.mb_rx.specs.declared.lives.Life.{Life}
 use Rattle.mb_rx.proofs.Making.{Makes-trans}
 use Rattle.mb_rx.proofs.Printing.{Prints-stop, Prints-then, Prints-same, incomplete_lines-more, incomplete_lines-at, all_done-more}
-use Rattle.mb_rx.proofs.ends.print_incomplete.Goals as goal
-use Rattle.mb_rx.proofs.ends.print_incomplete.Goals.{then-all, else-all}
+use Rattle.mb_rx.proofs.end_lines.print_incomplete.Goals as goal
+use Rattle.mb_rx.proofs.end_lines.print_incomplete.Goals.{then-all, else-all}
 
 and_of-true : (a b r : Bool) → a ≡ true → r ≡ b → r ≡ (a && b)
 and_of-true a b r is same = same ∙ ap (λ x. x && b) (sym is)

@@ -4,7 +4,7 @@ ghost use Rattle.mb_base.specs.Broadcast.{Record};
 ghost use Rattle.mb_alc.specs.Words.{kinds};
 ghost use Rattle.mb_rx.specs.Receive.{known_of};
 ghost use Rattle.mb_rx.specs.Run.{count_line, fault_lines, drop_lines, reasons, end_events, end_moment, incomplete_lines};
-ghost use Rattle.mb_rx.specs.Seen.{life_seen, lives_seen};
+ghost use Rattle.mb_rx.specs.ValueView.{life_seen, lives_seen};
 ghost use Rattle.mb_rx.specs.Steps.{Prints};
 
 use crate::cause::Cause;

@@ -6,7 +6,7 @@ use Rattle.mb_rx.specs.Receive.{Makes, outputs}
 use Rattle.mb_rx.specs.Run.{Event, count_line, drop_count, drop_lines}
 use Rattle.mb_rx.proofs.Making.{Makes-trans}
 use Rattle.mb_rx.proofs.Printing.{Prints-stop, Prints-then, Prints-same, Stops-same, flat_map-more, flat_map-at}
-use Rattle.mb_rx.proofs.ends.print_drops.Goals as goal
+use Rattle.mb_rx.proofs.end_lines.print_drops.Goals as goal
 
 pub returns-in_err-print_count-clause-printed : goal.returns-in_err-print_count-clause-printed
 returns-in_err-print_count-clause-printed g c =

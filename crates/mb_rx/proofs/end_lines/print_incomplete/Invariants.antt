@@ -3,8 +3,8 @@ use Rattle.std.specs.List.{list_all}
 use Rattle.mb_base.specs.Files.{File}
 use Rattle.mb_rx.specs.Receive.{Makes, outputs}
 use Rattle.mb_rx.specs.Run.{incomplete_lines}
-use Rattle.mb_rx.specs.Seen.{lives_seen}
-use Rattle.mb_rx.proofs.ends.print_incomplete.Given as goal
+use Rattle.mb_rx.specs.ValueView.{lives_seen}
+use Rattle.mb_rx.proofs.end_lines.print_incomplete.Given as goal
 
 abbrev pub invariant-loop-life : goal.invariant-loop-life
 invariant-loop-life g l = record {

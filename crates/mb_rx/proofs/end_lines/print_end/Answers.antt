@@ -7,7 +7,7 @@ use Rattle.mb_rx.specs.declared.faults.Faults.{Faults}
 use Rattle.mb_rx.specs.declared.cause.Cause.{Cause}
 use Rattle.mb_rx.specs.declared.drops.Drops.{Drops}
 use Rattle.mb_rx.proofs.Printing.{Prints-stop, Prints-then, Prints-same}
-use Rattle.mb_rx.proofs.ends.print_end.Goals as goal
+use Rattle.mb_rx.proofs.end_lines.print_end.Goals as goal
 
 -- the end line, by what its parts are
 end_line_is : (cause : Cause) (m moment n datagrams count : ℕ) (shown bytes : List ℕ) (rest : List Event)

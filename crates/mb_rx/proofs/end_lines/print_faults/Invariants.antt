@@ -2,7 +2,7 @@ use Rattle.std.proofs.Common.{◌≡◌, ℕ, take, List, Option}
 use Rattle.mb_base.specs.Files.{File}
 use Rattle.mb_rx.specs.Receive.{Makes, outputs}
 use Rattle.mb_rx.specs.Run.{fault_lines}
-use Rattle.mb_rx.proofs.ends.print_faults.Given as goal
+use Rattle.mb_rx.proofs.end_lines.print_faults.Given as goal
 
 abbrev pub invariant-loop-kind : goal.invariant-loop-kind
 invariant-loop-kind g l = record {
