@@ -4,3 +4,7 @@ pub mod Reducing
 pub mod Spans
 pub mod Offering
 pub mod Viewed
+pub mod Gathering
+pub mod Solving
+pub mod Placing
+pub mod Replaying

@@ -2,7 +2,6 @@
 use Rattle.std.proofs.Common.{◌≡◌, ℕ, zero, suc, ◌+◌, ◌-◌, ◌*◌, ◌/◌, ◌<◌, ◌≤◌, Bool, true, false, List, [], ◌∷◌, ◌++◌, length, take, drop, slice_index, set, refl, ap, ap₂, sym, subst, ◌∙◌, add-one, arith, ◌⊎◌, inl, inr, ◌≢◌}
 use Rattle.std.proofs.lemmas.Bool.Decides.{eqb_tells}
 use Rattle.std.proofs.Math.Dec.{eqb}
-use Rattle.std.proofs.Math.Nat.{mul-le-mul_left}
 use Rattle.std.proofs.Math.ListN.{length-set}
 use Rattle.std.proofs.lemmas.List.{get_or-set_same, get_or-set_other, get_or-take, get_or-drop, get_or_past}
 use Rattle.std.proofs.lemmas.Grind.{common_steps}
@@ -14,7 +13,7 @@ use Rattle.mb_linear.proofs.EchelonLemmas.{place_zeros, reduced_sum, left_none, 
 use Rattle.mb_bits.specs.BitRow.{bit_in, row_from, row_of, IsFirst}
 use Rattle.mb_bits.proofs.BitLemmas.{Order, Order.Below, Order.From, order}
 use Rattle.mb_elim.specs.Kept.{firsts, row_at, mask_start, mask_at, reduced_rows, row_as_it_came, BeginAtPivots, IsKept, TookNew, TookDetermined}
-use Rattle.mb_elim.proofs.Snoc.{length_firsts, firsts_same}
+use Rattle.mb_elim.proofs.Snoc.{firsts_same}
 use Rattle.mb_elim.proofs.RowsInWords.{row_from_same, length_row_from, place_row_from, row_within, row_same, rows_same, row_behind}
 use Rattle.mb_elim.proofs.Spans.{reduced_are_rows, sum_of_reduced, sum_of_news}
 
@@ -114,7 +113,7 @@ no_places (suc n) at words e = ap₂ (λ (b : Bool) (l : List Bool). b ∷ l) (e
 
 -- ---- what put_reduced leaves
 
-enough_words : (k w : ℕ) → w ≡ (k + 63) / 64 → k ≤ 64 * w
+pub enough_words : (k w : ℕ) → w ≡ (k + 63) / 64 → k ≤ 64 * w
 enough_words k w e = omega arith
 
 length_taken : (n : ℕ) (pivots : List ℕ) → n ≤ length pivots → length (take n pivots) ≡ n
@@ -276,7 +275,7 @@ took_new k w n rows masks pivots row rows' masks' place h room u e q t z =
 own_word : (w m : ℕ) (words : List ℕ) (j : ℕ) → j < w → slice_index (take (m + w - m) (drop m words)) j ≡ slice_index words (m + j)
 own_word w m words j p = get_or-take (m + w - m) (drop m words) j 0 (omega arith) ∙ get_or-drop m words j 0
 
-own_row : (k w n : ℕ) (words : List ℕ) → k ≤ 64 * w → row_at k w words n ≡ row_of k (take (w * n + w - w * n) (drop (w * n) words))
+pub own_row : (k w n : ℕ) (words : List ℕ) → k ≤ 64 * w → row_at k w words n ≡ row_of k (take (w * n + w - w * n) (drop (w * n) words))
 own_row k w n words p = sym (row_behind k w (w * n) (take (w * n + w - w * n) (drop (w * n) words)) words p (own_word w (w * n) words))
 
 pub first_set : (k w n place : ℕ) (words : List ℕ) → w ≡ (k + 63) / 64 → place < k → IsFirst (take (w * n + w - w * n) (drop (w * n) words)) place

@@ -1,11 +1,12 @@
 -- Rows that lie one behind the other in words.
-use Rattle.std.proofs.Common.{◌≡◌, ℕ, zero, suc, ◌+◌, ◌*◌, ◌/◌, ◌%◌, ◌<◌, ◌≤◌, ◌==◌, Bool, false, List, [], ◌∷◌, ◌++◌, length, slice_index, slice_index_or, refl, ap, ap₂, sym, ◌∙◌, arith}
+use Rattle.std.proofs.Common.{◌≡◌, ℕ, zero, suc, ◌+◌, ◌-◌, ◌*◌, ◌/◌, ◌%◌, ◌<◌, ◌≤◌, ◌==◌, Bool, List, [], ◌∷◌, ◌++◌, length, take, drop, slice_index, refl, ap, ap₂, sym, ◌∙◌, arith, ◌≢◌, ◌⊎◌, inl, inr}
 use Rattle.std.specs.Int.{bit_at}
 use Rattle.std.proofs.Math.Nat.{mul-le-mul_left}
 use Rattle.std.proofs.lemmas.Grind.{common_steps}
 use Rattle.mb_linear.specs.Echelon.{has_place}
 use Rattle.mb_bits.specs.BitRow.{bit_in, row_from, row_of}
-use Rattle.mb_elim.specs.Kept.{firsts, row_at, reduced_rows}
+use Rattle.mb_bits.proofs.BitLemmas.{Order, Order.Below, Order.From, order}
+use Rattle.mb_elim.specs.Kept.{row_at, reduced_rows}
 use Rattle.mb_elim.proofs.Snoc.{firsts_same}
 
 pub row_from_same : (n at bt : ℕ) (xs ys : List ℕ) → ((i j : ℕ) → i + bt ≡ j + at → at ≤ i → i < at + n → bit_in xs i ≡ bit_in ys j)
@@ -71,3 +72,17 @@ rows_same k w n xs ys p e = firsts_same (row_at k w xs) (row_at k w ys) n (λ i 
 pub row_between : (k w n : ℕ) (front own rest : List ℕ) → k ≤ 64 * w → length front ≡ w * n → length own ≡ w
     → row_at k w (front ++ (own ++ rest)) n ≡ row_of k own
 row_between k w n front own rest p f o = sym (row_behind k w (w * n) own (front ++ (own ++ rest)) p (λ j q. grind (arith, common_steps)))
+
+rows_apart_by : (w i n b : ℕ) → i ≢ n → b < w → Order i n → (w * i + b < w * n) ⊎ (w * n + w ≤ w * i + b)
+rows_apart_by w i n b e p (Below q) = let within = row_within w i n q in inl (omega arith)
+rows_apart_by w i n b e p (From q) =
+    let more : n < i = omega arith in
+    let within = row_within w n i more in inr (omega arith)
+
+-- bytes of two rows
+pub rows_apart : (w i n b : ℕ) → i ≢ n → b < w → (w * i + b < w * n) ⊎ (w * n + w ≤ w * i + b)
+rows_apart w i n b e p = rows_apart_by w i n b e p (order i n)
+
+-- the words of one of n rows
+pub own_length : (w i n : ℕ) (words : List ℕ) → length words ≡ w * n → i < n → length (take (w * i + w - w * i) (drop (w * i) words)) ≡ w
+own_length w i n words e p = let within = row_within w i n p in grind (arith, common_steps)

@@ -1,5 +1,5 @@
 -- What is a sum of the rows as they came is one of the reduced rows, and the other way round.
-use Rattle.std.proofs.Common.{◌≡◌, ℕ, zero, suc, ◌+◌, ◌*◌, ◌<◌, ◌≤◌, Bool, List, [], ◌∷◌, ◌++◌, length, refl, ap, ap₂, sym, ◌∙◌, arith}
+use Rattle.std.proofs.Common.{◌≡◌, ℕ, zero, suc, ◌*◌, Bool, List, [], ◌∷◌, ◌++◌, length}
 use Rattle.std.specs.List.{AllByRecursion}
 use Rattle.mb_linear.specs.Row.{row_sum, chosen_sum, AreRows}
 use Rattle.mb_linear.specs.Span.{IsSumOf}

@@ -1,6 +1,6 @@
 -- The view of the words.
-use Rattle.std.proofs.Common.{◌≡◌, ℕ, zero, suc, ◌+◌, ◌*◌, ◌/◌, ◌<◌, ◌≤◌, Bool, List, [], ◌∷◌, ◌++◌, length, take, slice_index, refl, false, true, ap, ap₂, sym, subst, ◌∙◌, arith}
-use Rattle.mb_linear.specs.Span.{IsSumOf, AreIndependent}
+use Rattle.std.proofs.Common.{◌≡◌, ℕ, zero, ◌+◌, ◌*◌, ◌/◌, ◌<◌, ◌≤◌, Bool, List, [], length, take, slice_index, refl, false, true, ap, sym, subst, ◌∙◌, arith}
+use Rattle.mb_linear.specs.Span.{IsSumOf}
 use Rattle.mb_linear.specs.Echelon.{IsEchelon}
 use Rattle.mb_linear.proofs.EchelonLemmas.{echelon_independent}
 use Rattle.mb_linear.proofs.Independence.{full_determines}

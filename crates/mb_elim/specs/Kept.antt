@@ -3,7 +3,7 @@ use Rattle.std.specs.Prelude.{◌≡◌, ℕ, zero, suc, ◌+◌, ◌*◌, ◌/�
 use Rattle.mb_linear.specs.Row.{row_sum, chosen_sum}
 use Rattle.mb_linear.specs.Span.{IsSumOf}
 use Rattle.mb_linear.specs.Echelon.{IsEchelon}
-use Rattle.mb_bits.specs.BitRow.{bit_in, row_from}
+use Rattle.mb_bits.specs.BitRow.{row_from}
 use Rattle.mb_elim.specs.Offered.{Offered}
 
 -- the first n of what is given at each index

@@ -3,8 +3,10 @@ ghost use Rattle.mb_linear.specs.Row.{AreRows};
 ghost use Rattle.mb_linear.specs.Span.{IsSumOf, AreIndependent};
 ghost use Rattle.mb_bits.specs.BitRow.{row_of};
 ghost use Rattle.mb_elim.specs.Offered.{Offered};
+ghost use Rattle.mb_elim.specs.Values.{AreSums, AreUnknowns};
 
 use crate::reduce::{reduce, take_row};
+use crate::replay::{put_by_pivots, reduce_values, solve_values};
 use mb_base::Memory;
 use mb_bits::{first_bit, words_for};
 use std::alloc::Global;
@@ -161,5 +163,20 @@ impl Elim {
             masks: self.masks.to_vec(alloc)?,
             pivots: self.pivots.to_vec(alloc)?,
         })
+    }
+
+    /// Makes of a stripe of values, `width` bytes for each new row in the order in which they came, the values of
+    /// the unknowns: where row n was the sum of the unknowns at the places of the n-th new row, row i is then
+    /// unknown i. It takes no memory.
+    pub fn replay(&self, stripe: &mut [u8], width: usize)
+        requires full { length self.now.news ≡ self.now.places }
+        requires stripe { length stripe.old ≡ width * self.now.places }
+        ensures count { length stripe.new ≡ length stripe.old }
+        ensures unknowns { (unknowns : List (List ℕ)) → length unknowns ≡ self.now.places → AreSums width self.now.news unknowns stripe.old → AreUnknowns width unknowns stripe.new }
+    {
+        let count = self.places as usize;
+        reduce_values(stripe, &self.masks, count, width);
+        solve_values(stripe, &self.rows, &self.pivots, words_for(count), width);
+        put_by_pivots(stripe, &self.pivots, width);
     }
 }

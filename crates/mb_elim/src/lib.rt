@@ -4,5 +4,6 @@
 
 mod elim;
 mod reduce;
+mod replay;
 
 pub use elim::{Elim, Offer};

@@ -1,4 +1,4 @@
-use Rattle.std.proofs.Common.{ℕ, ◌∙◌}
+use Rattle.std.proofs.Common.{◌∙◌}
 use Rattle.mb_linear.proofs.RowLemmas.{sum_comm}
 use Rattle.mb_elim.proofs.reduce.clear_place.Goals as goal
 

@@ -1,4 +1,4 @@
-use Rattle.std.proofs.Common.{ℕ, ◌∙◌, ap, length}
+use Rattle.std.proofs.Common.{◌∙◌, ap, length}
 use Rattle.mb_elim.proofs.Reducing.{put_left, put_mask}
 use Rattle.mb_elim.proofs.reduce.put_reduced.Goals as goal
 

@@ -1,4 +1,4 @@
-use Rattle.std.proofs.Common.{◌≡◌, ℕ, ◌+◌, ◌*◌, ◌<◌, slice_index, arith}
+use Rattle.std.proofs.Common.{arith}
 use Rattle.std.proofs.lemmas.Grind.{common_steps}
 use Rattle.mb_elim.proofs.Reducing.{reduced_none, reduced_step}
 use Rattle.mb_elim.proofs.reduce.reduce.Goals as goal
