@@ -86,6 +86,13 @@ impl Elim {
         })
     }
 
+    /// How many places its rows have.
+    pub fn places(&self) -> u16
+        ensures { result ≡ self.now.places }
+    {
+        self.places
+    }
+
     /// How many rows were new.
     pub fn rank(&self) -> u16
         ensures count { result ≡ length self.now.news }

@@ -3,6 +3,8 @@
 #![tactic(auto)]
 
 mod elim;
+#[cfg(test)]
+mod elim_tests;
 mod reduce;
 mod replay;
 
