@@ -8,3 +8,4 @@ pub mod Gathering
 pub mod Solving
 pub mod Placing
 pub mod Replaying
+pub mod Independent

@@ -19,7 +19,7 @@ use Rattle.mb_elim.proofs.Spans.{reduced_are_rows}
 
 -- ---- reduced rows by their numbers
 
-echelon_before : (rows : List (List Bool)) (ps : List ℕ) (r : List Bool) (p : ℕ) → length rows ≡ length ps → IsEchelon (rows ++ r ∷ []) (ps ++ p ∷ []) → IsEchelon rows ps
+pub echelon_before : (rows : List (List Bool)) (ps : List ℕ) (r : List Bool) (p : ℕ) → length rows ≡ length ps → IsEchelon (rows ++ r ∷ []) (ps ++ p ∷ []) → IsEchelon rows ps
 echelon_before [] [] r p l h = tt
 echelon_before [] (q ∷ ps) r p l h = absurd (omega arith)
 echelon_before (s ∷ rows) [] r p l h = absurd (omega arith)
@@ -40,7 +40,7 @@ echelon_last (s ∷ rows) [] r p l h = absurd (omega arith)
 echelon_last (s ∷ rows) (q ∷ ps) r p l h =
     let l2 : length rows ≡ length ps = omega arith in echelon_last rows ps r p l2 h.2
 
-same_count : (f : ℕ → List Bool) (g : ℕ → ℕ) (n : ℕ) → length (firsts f n) ≡ length (firsts g n)
+pub same_count : (f : ℕ → List Bool) (g : ℕ → ℕ) (n : ℕ) → length (firsts f n) ≡ length (firsts g n)
 same_count f g n = length_firsts f n ∙ sym (length_firsts g n)
 
 all_at_by : {A : Type 0} → (P : A → Type 0) (f : ℕ → A) (n i : ℕ) → ((m : ℕ) → m < n → P (f m)) → P (f n) → i < suc n → Order i n → P (f i)
@@ -165,7 +165,7 @@ clear_is_zero k w rows pivots row e h z =
     sym (reduced_still reds ps row z)
     ∙ sum_left k reds ps row are e h (full_determines k reds row are (echelon_independent k reds ps are h) (length_firsts (row_at k w rows) k) e)
 
-same_rows : (k : ℕ) (a b : List Bool) → length a ≡ k → length b ≡ k → row_sum a b ≡ zeros k → a ≡ b
+pub same_rows : (k : ℕ) (a b : List Bool) → length a ≡ k → length b ≡ k → row_sum a b ≡ zeros k → a ≡ b
 same_rows k a b e f z = sym (sum_twice k b a f e) ∙ ap (row_sum b) (sum_comm b a ∙ z) ∙ zeros_right k b f
 
 sum_unset : (x y : List Bool) (q : ℕ) (b : Bool) → length x ≡ length y → has_place x q ≡ b → has_place y q ≡ b → has_place (row_sum x y) q ≡ false

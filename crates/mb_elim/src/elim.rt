@@ -1,4 +1,4 @@
-ghost use Rattle.std.specs.Prelude.{◌≡◌, ◌↔◌, ℕ, List, [], ◌∷◌, ◌++◌, ◌+◌, ◌*◌, ◌/◌, ◌<◌, ◌≤◌, ◌^◌, ◌==◌, true, false, length, slice_index, IfOk};
+ghost use Rattle.std.specs.Prelude.{◌≡◌, ◌↔◌, ℕ, List, [], ◌∷◌, ◌++◌, ◌+◌, ◌*◌, ◌/◌, ◌<◌, ◌≤◌, ◌^◌, ◌==◌, Bool, true, false, length, slice_index, IfOk};
 ghost use Rattle.mb_linear.specs.Row.{AreRows};
 ghost use Rattle.mb_linear.specs.Span.{IsSumOf, AreIndependent};
 ghost use Rattle.mb_bits.specs.BitRow.{row_of};
@@ -97,13 +97,16 @@ impl Elim {
     pub fn rank(&self) -> u16
         ensures count { result ≡ length self.now.news }
         ensures few { result ≤ self.now.places }
+        ensures rows { AreRows self.now.places self.now.news }
+        ensures independent { AreIndependent self.now.places self.now.news }
     {
         self.rank
     }
 
-    /// Whether as many rows were new as they have places.
+    /// Whether as many rows were new as they have places: then each row is a sum of them.
     pub fn is_full(&self) -> bool
-        ensures { result ≡ (length self.now.news == self.now.places) }
+        ensures count { result ≡ (length self.now.news == self.now.places) }
+        ensures all { result ≡ true → (row : List Bool) → length row ≡ self.now.places → IsSumOf self.now.places self.now.news row }
     {
         self.rank == self.places
     }
