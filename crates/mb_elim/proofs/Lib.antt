@@ -1,0 +1,11 @@
+pub mod Snoc
+pub mod RowsInWords
+pub mod Reducing
+pub mod Spans
+pub mod Offering
+pub mod Viewed
+pub mod Gathering
+pub mod Solving
+pub mod Placing
+pub mod Replaying
+pub mod Independent

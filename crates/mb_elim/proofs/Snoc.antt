@@ -1,0 +1,60 @@
+-- Lists that grow at their end.
+use Rattle.std.proofs.Common.{◌≡◌, ℕ, zero, suc, ◌<◌, Bool, List, [], ◌∷◌, ◌++◌, length, refl, ap, ap₂, ◌∙◌, arith}
+use Rattle.std.specs.List.{AllByRecursion}
+use Rattle.mb_linear.specs.Row.{added_if}
+use Rattle.mb_linear.specs.Echelon.{has_place, reduced, added_rows}
+use Rattle.mb_elim.specs.Kept.{firsts}
+
+pub length_snoc : {A : Type 0} → (xs : List A) (x : A) → length (xs ++ x ∷ []) ≡ suc (length xs)
+length_snoc [] x = refl
+length_snoc (y ∷ xs) x = ap suc (length_snoc xs x)
+
+pub length_firsts : {A : Type 0} → (f : ℕ → A) (n : ℕ) → length (firsts f n) ≡ n
+unfolding firsts
+length_firsts f zero = refl
+length_firsts f (suc n) = length_snoc (firsts f n) (f n) ∙ ap suc (length_firsts f n)
+
+pub firsts_same : {A : Type 0} → (f g : ℕ → A) (n : ℕ) → ((i : ℕ) → i < n → f i ≡ g i) → firsts f n ≡ firsts g n
+unfolding firsts
+firsts_same f g zero e = refl
+firsts_same f g (suc n) e = ap₂ (λ (xs : List _) (x : _). xs ++ x ∷ []) (firsts_same f g n (λ i p. e i (omega arith))) (e n (omega arith))
+
+-- ---- all of a list
+
+pub all_before : {A : Type 0} → (P : A → Type 0) (xs : List A) (x : A) → AllByRecursion P (xs ++ x ∷ []) → AllByRecursion P xs
+all_before P [] x a = tt
+all_before P (y ∷ xs) x a = (a.0, all_before P xs x a.1)
+
+pub all_last : {A : Type 0} → (P : A → Type 0) (xs : List A) (x : A) → AllByRecursion P (xs ++ x ∷ []) → P x
+all_last P [] x a = a.0
+all_last P (y ∷ xs) x a = all_last P xs x a.1
+
+pub all_snoc : {A : Type 0} → (P : A → Type 0) (xs : List A) (x : A) → AllByRecursion P xs → P x → AllByRecursion P (xs ++ x ∷ [])
+all_snoc P [] x a p = (p, tt)
+all_snoc P (y ∷ xs) x a p = (a.0, all_snoc P xs x a.1 p)
+
+pub all_firsts : {A : Type 0} → (P : A → Type 0) (f : ℕ → A) (n : ℕ) → ((i : ℕ) → i < n → P (f i)) → AllByRecursion P (firsts f n)
+unfolding firsts
+all_firsts P f zero e = tt
+all_firsts P f (suc n) e = all_snoc P (firsts f n) (f n) (all_firsts P f n (λ i p. e i (omega arith))) (e n (omega arith))
+
+-- ---- reducing by one row more
+
+pub reduced_snoc : (rows : List (List Bool)) (pivots : List ℕ) (r row : List Bool) (p : ℕ) → length pivots ≡ length rows
+    → reduced (rows ++ r ∷ []) (pivots ++ p ∷ []) row ≡ added_if (has_place (reduced rows pivots row) p) r (reduced rows pivots row)
+unfolding reduced
+reduced_snoc [] [] r row p l = refl
+reduced_snoc [] (q ∷ pivots) r row p l = absurd (omega arith)
+reduced_snoc (s ∷ rows) [] r row p l = absurd (omega arith)
+reduced_snoc (s ∷ rows) (q ∷ pivots) r row p l =
+    let l2 : length pivots ≡ length rows = omega arith in reduced_snoc rows pivots r (added_if (has_place row q) s row) p l2
+
+pub added_snoc : (rows : List (List Bool)) (pivots : List ℕ) (r row : List Bool) (p : ℕ) → length pivots ≡ length rows
+    → added_rows (rows ++ r ∷ []) (pivots ++ p ∷ []) row ≡ added_rows rows pivots row ++ has_place (reduced rows pivots row) p ∷ []
+unfolding reduced added_rows
+added_snoc [] [] r row p l = refl
+added_snoc [] (q ∷ pivots) r row p l = absurd (omega arith)
+added_snoc (s ∷ rows) [] r row p l = absurd (omega arith)
+added_snoc (s ∷ rows) (q ∷ pivots) r row p l =
+    let l2 : length pivots ≡ length rows = omega arith in
+    ap (λ (bs : List Bool). has_place row q ∷ bs) (added_snoc rows pivots r (added_if (has_place row q) s row) p l2)

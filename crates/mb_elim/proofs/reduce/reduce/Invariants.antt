@@ -1,0 +1,13 @@
+use Rattle.std.proofs.Common.{◌≡◌, ℕ, ◌*◌, ◌<◌, ◌≤◌, length, slice_index}
+use Rattle.mb_linear.specs.Echelon.{reduced}
+use Rattle.mb_bits.specs.BitRow.{row_of}
+use Rattle.mb_elim.specs.Kept.{firsts, reduced_rows}
+use Rattle.mb_elim.proofs.reduce.reduce.Given as goal
+
+-- the row is reduced by the rows so far
+abbrev pub invariant-loop-i : goal.invariant-loop-i
+invariant-loop-i l = record {
+  words : length l.sum ≡ length l.initial.sum;
+  left : (k : ℕ) → k ≤ 64 * length l.initial.sum → ((i : ℕ) → slice_index l.pivots i < k) →
+      row_of k l.sum ≡ reduced (reduced_rows k (length l.initial.sum) l.rows l.i) (firsts (slice_index l.pivots) l.i) (row_of k l.initial.sum);
+}

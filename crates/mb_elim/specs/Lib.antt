@@ -1,0 +1,4 @@
+pub mod Offered
+pub mod Kept
+pub mod Values
+pub mod Replay
