@@ -2,7 +2,7 @@
 use Rattle.std.specs.Prelude.{◌≡◌, ℕ, zero, suc, ◌+◌, ◌*◌, ◌/◌, ◌<◌, ◌≤◌, Bool, List, [], ◌∷◌, ◌++◌, length, slice_index}
 use Rattle.mb_linear.specs.Row.{row_sum, chosen_sum}
 use Rattle.mb_linear.specs.Span.{IsSumOf}
-use Rattle.mb_linear.specs.Echelon.{IsEchelon}
+use Rattle.mb_linear.specs.Echelon.{IsEchelon, reduced, added_rows}
 use Rattle.mb_bits.specs.BitRow.{row_from}
 use Rattle.mb_elim.specs.Offered.{Offered}
 
@@ -26,6 +26,14 @@ mask_at masks n = row_from n (mask_start n) masks
 -- the first n reduced rows
 abbrev pub reduced_rows : ℕ → ℕ → List ℕ → ℕ → List (List Bool)
 reduced_rows places width rows n = firsts (row_at places width rows) n
+
+-- what is left of a row that was reduced by the first n
+abbrev pub left_of : ℕ → ℕ → List ℕ → List ℕ → ℕ → List Bool → List Bool
+left_of places width rows pivots n row = reduced (reduced_rows places width rows n) (firsts (slice_index pivots) n) row
+
+-- which of them were added to it
+abbrev pub added_to : ℕ → ℕ → List ℕ → List ℕ → ℕ → List Bool → List Bool
+added_to places width rows pivots n row = added_rows (reduced_rows places width rows n) (firsts (slice_index pivots) n) row
 
 -- row n as it came: the reduced one without those that were added to it
 abbrev pub row_as_it_came : ℕ → ℕ → List ℕ → List ℕ → ℕ → List Bool

@@ -111,10 +111,12 @@ impl Elim {
         self.rank == self.places
     }
 
-    /// Takes a row, and says whether it is a sum of rows that were offered before.
+    /// Takes a row, and says whether it is a sum of rows that were offered before. Place i is bit `i % 64` of word
+    /// `i / 64`; what lies behind the last place is not looked at.
     pub fn offer(&mut self, row: &[u64]) -> Offer
         requires words { length row.now ≡ (self.old.places + 63) / 64 }
         ensures determined { result ≡ Offer.Determined ↔ IsSumOf self.old.places self.old.news (row_of self.old.places row.now) }
+        ensures places { self.new.places ≡ self.old.places }
         ensures same { result ≡ Offer.Determined → self.new ≡ self.old }
         ensures new { (n : ℕ) → result ≡ Offer.New n → n ≡ length self.old.news }
         ensures added { (n : ℕ) → result ≡ Offer.New n → self.new ≡ record { places = self.old.places; news = self.old.news ++ row_of self.old.places row.now ∷ [] } }
@@ -138,7 +140,7 @@ impl Elim {
         }
     }
 
-    /// Whether `offer` would answer `New`. It uses as many words as the row has to work in.
+    /// Whether `offer` would answer `New`. It works in `scratch`.
     pub fn would_be_new(&self, row: &[u64], scratch: &mut [u64]) -> bool
         requires words { length row.now ≡ (self.now.places + 63) / 64 }
         requires scratch { length scratch.old ≡ length row.now }

@@ -1,8 +1,7 @@
-ghost use Rattle.std.specs.Prelude.{true, false, ◌≡◌, ◌≢◌, ℕ, ◌+◌, ◌*◌, ◌/◌, ◌<◌, ◌≤◌, ◌^◌, length, take, drop, slice_index};
+ghost use Rattle.std.specs.Prelude.{true, false, ◌≡◌, ◌≢◌, ℕ, ◌+◌, ◌*◌, ◌/◌, ◌<◌, ◌≤◌, ◌^◌, length, slice_index};
 ghost use Rattle.mb_linear.specs.Row.{added_if};
-ghost use Rattle.mb_linear.specs.Echelon.{reduced, added_rows};
 ghost use Rattle.mb_bits.specs.BitRow.{bit_in, row_of, row_from};
-ghost use Rattle.mb_elim.specs.Kept.{firsts, row_at, reduced_rows, BeginAtPivots, IsKept, TookNew, TookDetermined};
+ghost use Rattle.mb_elim.specs.Kept.{row_at, left_of, added_to, BeginAtPivots, IsKept, TookNew, TookDetermined};
 
 use mb_bits::{add_row, first_bit, flip_bit, has_bit};
 
@@ -44,7 +43,7 @@ pub(crate) fn reduce(sum: &mut [u64], rows: &[u64], pivots: &[u16])
     requires begins { BeginAtPivots (length sum.old) (length pivots.now) rows.now pivots.now }
     ensures words { length sum.new ≡ length sum.old }
     ensures left { (k : ℕ) → k ≤ 64 * length sum.old → ((i : ℕ) → slice_index pivots.now i < k) →
-        row_of k sum.new ≡ reduced (reduced_rows k (length sum.old) rows.now (length pivots.now)) (firsts (slice_index pivots.now) (length pivots.now)) (row_of k sum.old) }
+        row_of k sum.new ≡ left_of k (length sum.old) rows.now pivots.now (length pivots.now) (row_of k sum.old) }
 {
     let width = sum.len();
     for i in 0..pivots.len() {
@@ -62,9 +61,9 @@ fn reduce_noting(sum: &mut [u64], rows: &[u64], pivots: &[u16], masks: &mut [u64
     requires places { start + length pivots.now < 2 ^ 64 }
     ensures words { length sum.new ≡ length sum.old }
     ensures left { (k : ℕ) → k ≤ 64 * length sum.old → ((i : ℕ) → slice_index pivots.now i < k) →
-        row_of k sum.new ≡ reduced (reduced_rows k (length sum.old) rows.now (length pivots.now)) (firsts (slice_index pivots.now) (length pivots.now)) (row_of k sum.old) }
+        row_of k sum.new ≡ left_of k (length sum.old) rows.now pivots.now (length pivots.now) (row_of k sum.old) }
     ensures mask { (k : ℕ) → k ≤ 64 * length sum.old → ((i : ℕ) → slice_index pivots.now i < k) →
-        row_from (length pivots.now) start masks.new ≡ added_rows (reduced_rows k (length sum.old) rows.now (length pivots.now)) (firsts (slice_index pivots.now) (length pivots.now)) (row_of k sum.old) }
+        row_from (length pivots.now) start masks.new ≡ added_to k (length sum.old) rows.now pivots.now (length pivots.now) (row_of k sum.old) }
     ensures mask_words { length masks.new ≡ length masks.old }
     ensures before { (j : ℕ) → j < start → bit_in masks.new j ≡ bit_in masks.old j }
 {
@@ -86,9 +85,9 @@ fn put_reduced(rows: &mut [u64], row: &[u64], pivots: &[u16], masks: &mut [u64],
     ensures words { length rows.new ≡ length rows.old }
     ensures earlier { (j : ℕ) → j < length row.now * length pivots.now → slice_index rows.new j ≡ slice_index rows.old j }
     ensures left { (k : ℕ) → k ≤ 64 * length row.now → ((i : ℕ) → slice_index pivots.now i < k) →
-        row_at k (length row.now) rows.new (length pivots.now) ≡ reduced (reduced_rows k (length row.now) rows.old (length pivots.now)) (firsts (slice_index pivots.now) (length pivots.now)) (row_of k row.now) }
+        row_at k (length row.now) rows.new (length pivots.now) ≡ left_of k (length row.now) rows.old pivots.now (length pivots.now) (row_of k row.now) }
     ensures mask { (k : ℕ) → k ≤ 64 * length row.now → ((i : ℕ) → slice_index pivots.now i < k) →
-        row_from (length pivots.now) start masks.new ≡ added_rows (reduced_rows k (length row.now) rows.old (length pivots.now)) (firsts (slice_index pivots.now) (length pivots.now)) (row_of k row.now) }
+        row_from (length pivots.now) start masks.new ≡ added_to k (length row.now) rows.old pivots.now (length pivots.now) (row_of k row.now) }
     ensures mask_words { length masks.new ≡ length masks.old }
     ensures before { (j : ℕ) → j < start → bit_in masks.new j ≡ bit_in masks.old j }
 {
