@@ -1,7 +1,7 @@
 //! `receive` over the longest inputs, with ample memory: the largest datagram, the longest location and its line,
 //! and more than a thousand datagrams.
 use crate::receive_tests::*;
-use mb_base::Memory;
+use mb_base::{DATAGRAM_MAX, Memory, trace_bytes};
 use std::alloc::Global;
 use std::process::Abort;
 use std::test::Fail;
@@ -36,20 +36,34 @@ fn payload_in(alloc: Global) -> Result<Vec<u8>, Memory> {
     Ok(payload)
 }
 
+fn longest_text(alloc: Global, location: &[u8]) -> Result<Vec<u8>, Memory> {
+    let mut text = HEAD.as_bytes().to_vec(alloc)?;
+    text.extend_from_slice(BEFORE_LOCATION.as_bytes())?;
+    text.extend_from_slice(location)?;
+    text.extend_from_slice(BEHIND_LOCATION.as_bytes())?;
+    text.extend_from_slice(END.as_bytes())?;
+    Ok(text)
+}
+
+fn push_record(rt: &impl Abort, datagram: &[u8], trace: &mut Vec<u8>) -> Result<(), Memory> {
+    assert!(rt; datagram.len() <= DATAGRAM_MAX);
+    trace_bytes(NOW, datagram, trace)
+}
+
 fn longest_trace(
     rt: &impl Abort,
     alloc: Global,
-    location: &str,
+    location: &[u8],
     payload: &[u8],
 ) -> Result<Vec<u8>, Memory> {
-    let text = [HEAD, BEFORE_LOCATION, location, BEHIND_LOCATION, END];
-    let mut trace = trace_of(rt, alloc, &[(NOW, Sent::Text(&text))])?;
-    let between = trace_of(rt, alloc, &[JUNK])?;
+    let mut trace = Vec::new(alloc);
+    let text = text_packet(alloc, &longest_text(alloc, location)?)?;
+    push_record(rt, &text, &mut trace)?;
     for _ in 0..BETWEEN {
-        trace.extend_from_slice(&between)?;
+        push_record(rt, b"\0", &mut trace)?;
     }
-    let file = trace_of(rt, alloc, &[(NOW, Sent::Symbol(1, 5, 0, payload))])?;
-    trace.extend_from_slice(&file)?;
+    let file = packet_of(alloc, &[0x10a0_0400, 0, 1, 5, 0], payload)?;
+    push_record(rt, &file, &mut trace)?;
     Ok(trace)
 }
 
@@ -58,7 +72,7 @@ fn the_longest_inputs_find_room(rt: HostRuntime) -> Result<(), Fail> {
     let alloc = rt.alloc();
     let location = location_in(alloc)?;
     let payload = payload_in(alloc)?;
-    let trace = longest_trace(&rt, alloc, location.as_str(), &payload)?;
+    let trace = longest_trace(&rt, alloc, location.as_bytes(), &payload)?;
     let left = received(&rt, &TSI_1, &trace, [&[], &[], &[]])?;
     let stored = format!(in alloc; "stored 5 65515 {location}")?;
     let printed = [

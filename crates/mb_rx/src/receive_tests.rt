@@ -89,7 +89,7 @@ fn join(alloc: Global, pieces: &[&str], end: &str) -> Result<Vec<u8>, Memory> {
     Ok(out)
 }
 
-fn packet_of(alloc: Global, words: &[u32], payload: &[u8]) -> Result<Vec<u8>, Memory> {
+pub(crate) fn packet_of(alloc: Global, words: &[u32], payload: &[u8]) -> Result<Vec<u8>, Memory> {
     let mut out = Vec::new(alloc);
     for word in words {
         put_be32(&mut out, *word)?;
@@ -98,25 +98,27 @@ fn packet_of(alloc: Global, words: &[u32], payload: &[u8]) -> Result<Vec<u8>, Me
     Ok(out)
 }
 
+/// The packet of the FDT Instance 1 with this text, as its one symbol.
+pub(crate) fn text_packet(alloc: Global, text: &[u8]) -> Result<Vec<u8>, Memory> {
+    let len = (text.len() % 0x1_0000) as u32;
+    let head = [
+        0x10a0_0900,
+        0,
+        1,
+        0,
+        0xc010_0001,
+        0x4004_0000,
+        len,
+        len.max(1400),
+        64,
+        0,
+    ];
+    packet_of(alloc, &head, text)
+}
+
 fn datagram_of(alloc: Global, sent: Sent<'_>) -> Result<Vec<u8>, Memory> {
     match sent {
-        Sent::Text(pieces) => {
-            let text = join(alloc, pieces, "")?;
-            let len = (text.len() % 0x1_0000) as u32;
-            let head = [
-                0x10a0_0900,
-                0,
-                1,
-                0,
-                0xc010_0001,
-                0x4004_0000,
-                len,
-                len.max(1400),
-                64,
-                0,
-            ];
-            packet_of(alloc, &head, &text)
-        }
+        Sent::Text(pieces) => text_packet(alloc, &join(alloc, pieces, "")?),
         Sent::Symbol(tsi, toi, payload_id, payload) => {
             packet_of(alloc, &[0x10a0_0400, 0, tsi, toi, payload_id], payload)
         }
