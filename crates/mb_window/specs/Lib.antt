@@ -1,0 +1,4 @@
+pub mod Symbols
+pub mod Assembled
+pub mod Window
+pub mod Buffer
