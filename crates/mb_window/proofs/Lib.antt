@@ -1,3 +1,4 @@
 pub mod SeenLemmas
 pub mod BufferLemmas
 pub mod PlaceLemmas
+pub mod RefusalLemmas

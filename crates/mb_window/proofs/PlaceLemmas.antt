@@ -1,11 +1,15 @@
 -- Where a block begins among the symbols of all blocks.
-use Rattle.std.proofs.Common.{◌≡◌, ℕ, zero, suc, ◌+◌, ◌-◌, ◌*◌, ◌<◌, ◌≤◌, List, ◌++◌, length, take, replicate, sum, refl, sym, ◌∙◌, ap, arith}
+use Rattle.std.proofs.Common.{◌≡◌, ℕ, zero, suc, ◌+◌, ◌-◌, ◌*◌, ◌/◌, ◌%◌, min, ◌<◌, ◌≤◌, List, ◌++◌, length, take, replicate, sum, refl, sym, ◌∙◌, ap, arith}
 use Rattle.std.specs.List.{sum_by}
 use Rattle.std.proofs.Math.Seq.{take-append-add}
 use Rattle.std.proofs.lemmas.List.{take-append-le, take-replicate, length-replicate}
 use Rattle.std.proofs.lemmas.List.Sums.{sum_by-append}
 use Rattle.std.proofs.lemmas.List.Folds.{sum_by-replicate}
-use Rattle.mb_geom.specs.Partition.{sizes_of}
+use Rattle.mb_geom.specs.Partition.{ceiling, partition_of, sizes_of}
+use Rattle.mb_geom.specs.Description.{symbols, block_sizes}
+use Rattle.mb_geom.proofs.PartitionLemmas.{ceiling-div_ceil}
+use Rattle.mb_geom.proofs.BlockLemmas.{block_sizes-is}
+use Rattle.mb_window.specs.Assembled.{text_with}
 use Rattle.mb_geom.specs.declared.parts.Parts.{Parts}
 
 -- among the first parts
@@ -29,3 +33,10 @@ pub things-later : (p : Parts) (number : ℕ) → p.jl ≤ number → number < l
 things-later p number behind within count =
     let split : number ≡ p.jl + (number - p.jl) = omega arith in
     sym (ap (λ k. sum (take k (sizes_of p))) split ∙ things_after p (number - p.jl) (omega (arith, count)))
+
+-- the blocks of a text, from what calls gave
+pub blocks-exact : (f t b kt n : ℕ) (p : Parts) → 0 < b → kt ≡ symbols (text_with f t b) → n ≡ kt / b + min 1 (kt % b) → p ≡ partition_of kt n
+    → block_sizes (text_with f t b) ≡ sizes_of p
+blocks-exact f t b kt n p pos kt_is n_is p_is =
+    let n_ceil : n ≡ ceiling kt b = n_is ∙ sym (ceiling-div_ceil kt b pos) in
+    block_sizes-is (text_with f t b) ∙ ap sizes_of (rw (p_is, n_ceil, kt_is) refl)

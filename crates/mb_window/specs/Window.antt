@@ -1,5 +1,5 @@
 -- The window: the FDT Instances whose texts are put together from packets, or were read.
-use Rattle.std.specs.Prelude.{ℕ, ◌+◌, ◌*◌, ◌==◌, ◌<◌, ◌≤◌, ◌^◌, Bool, true, false, not, nat_lt, nat_le, if◌then◌else◌, List, [], ◌∷◌, ◌++◌, length, drop, filter, remove, position, sum_by, slice_get, slice_set, Option, Some, None, is_some, Result, Ok, Err}
+use Rattle.std.specs.Prelude.{◌≡◌, ℕ, ◌+◌, ◌*◌, ◌==◌, ◌<◌, ◌≤◌, ◌^◌, Bool, true, false, not, nat_lt, nat_le, if◌then◌else◌, List, [], ◌∷◌, ◌++◌, length, drop, filter, remove, position, sum_by, slice_get, slice_set, Option, Some, None, is_some, Result, Ok, Err}
 use Rattle.mb_geom.specs.Partition.{ceiling}
 use Rattle.mb_geom.specs.Description.{Description, symbols, block_count}
 use Rattle.mb_alc.specs.Packet.{Body}
@@ -88,6 +88,10 @@ hear_with id place slots text kept =
 abbrev pub hear_symbols : ℕ → Option ℕ → List Slot → Body → Option Assembled → Hearing
 hear_symbols id place slots body None = dropped slots Done
 hear_symbols id place slots body (Some a) = hear_with id place slots a.text (symbol.hear_symbols a.text (symbols_of a.text body) a.kept)
+
+-- what a packet did to the window, and its answer
+abbrev pub Hears : Hearing → List Slot → WindowHeard → Type 0
+Hears is slots heard = (slots ≡ is.slots) × (heard ≡ is.heard)
 
 abbrev pub hear_unless : Option WindowHeard → ℕ → Option ℕ → List Slot → Body → Option Assembled → Hearing
 hear_unless (Some reason) id place slots body so_far = dropped slots reason

@@ -130,4 +130,57 @@ impl Geometry {
     {
         self.length.div_ceil(self.symbol) as usize
     }
+
+    /// How the symbols are divided into blocks.
+    #[tactic(auto, unfolding(mb_geom::specs::Description::block_sizes))]
+    fn blocks(&self) -> Parts
+        ensures exact { block_sizes self.now ≡ sizes_of result }
+        ensures count { block_count self.now ≡ result.jl + result.js }
+        ensures fits { result.jl + result.js ≤ 2 ^ 16 }
+        ensures things { result.jl * result.il + result.js * result.is ≡ symbols self.now }
+        ensures few { symbols self.now ≤ 2 ^ 16 }
+    {
+        let symbols = self.symbols() as u64;
+        partition(symbols, symbols.div_ceil(self.max_block))
+    }
+
+    /// Whether a payload of so many bytes, whose symbols end before a place, has the bytes of its last symbol.
+    fn is_good_length(&self, end: usize, length: usize) -> bool
+        ensures { result ≡ (nat_lt 0 length && ((length % self.now.symbol == 0)
+            || ((end == symbols self.now) && nat_le (tail self.now) (length % self.now.symbol)))) }
+    {
+        let short = length % self.symbol();
+        if length == 0 || short == 0 {
+            return length > 0;
+        }
+        let symbols = self.symbols();
+        end == symbols && self.length() - (symbols - 1) * self.symbol() <= short
+    }
+
+    /// Where the payload's symbols stand in the text, or why it has no such symbols.
+    pub fn run_of(&self, body: &Body<'_>) -> Result<Run, WindowHeard>
+        ensures refused { IfErr result (λ reason. symbols_refused self.now (body_seen body.now) ≡ Some reason) }
+        ensures found { IfOk result (λ run. symbols_refused self.now (body_seen body.now) ≡ None) }
+        ensures first { IfOk result (λ run. run.first ≡ place_of self.now body.now.sbn body.now.esi) }
+        ensures count { IfOk result (λ run. run.count ≡ symbol_count self.now (body_seen body.now)) }
+        ensures places { IfOk result (λ run. run.first + run.count ≤ symbols self.now) }
+        ensures bytes { IfOk result (λ run. min (run.count * self.now.symbol) (self.now.length - run.first * self.now.symbol) ≤ length body.now.payload.now) }
+    {
+        let blocks = self.blocks();
+        let sbn = u64::from(body.sbn);
+        if sbn >= blocks.jl + blocks.js {
+            return Err(WindowHeard::Block);
+        }
+        let length = body.payload.len();
+        let count = length.div_ceil(self.symbol());
+        let esi = usize::from(body.esi);
+        if esi + count.max(1) > size_of(blocks, sbn) as usize {
+            return Err(WindowHeard::Symbol);
+        }
+        let first = things_before(blocks, sbn) as usize + esi;
+        if !self.is_good_length(first + count, length) {
+            return Err(WindowHeard::Length);
+        }
+        Ok(Run { first, count })
+    }
 }
