@@ -2,3 +2,4 @@ pub mod SeenLemmas
 pub mod BufferLemmas
 pub mod PlaceLemmas
 pub mod RefusalLemmas
+pub mod HearLemmas

@@ -2,3 +2,4 @@ pub mod Symbols
 pub mod Assembled
 pub mod Window
 pub mod Buffer
+pub mod Turn

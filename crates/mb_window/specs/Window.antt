@@ -85,9 +85,13 @@ hear_with id place slots text kept =
     if is_whole kept then record { slots = slots; heard = Whole (joined kept) }
     else record { slots = with_slot place (record { id = id; state = Heard (record { text = text; kept = kept }) }) slots; heard = Part }
 
+-- the text with the packet's symbols
+abbrev pub heard_more : Assembled → Body → Assembled
+heard_more a body = record a { kept = symbol.hear_symbols a.text (symbols_of a.text body) a.kept }
+
 abbrev pub hear_symbols : ℕ → Option ℕ → List Slot → Body → Option Assembled → Hearing
 hear_symbols id place slots body None = dropped slots Done
-hear_symbols id place slots body (Some a) = hear_with id place slots a.text (symbol.hear_symbols a.text (symbols_of a.text body) a.kept)
+hear_symbols id place slots body (Some a) = hear_with id place slots a.text (heard_more a body).kept
 
 -- what a packet did to the window, and its answer
 abbrev pub Hears : Hearing → List Slot → WindowHeard → Type 0

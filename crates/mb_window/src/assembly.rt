@@ -2,9 +2,12 @@ ghost use Rattle.std.specs.Prelude.{◌≡◌, ℕ, ◌+◌, ◌*◌, ◌-◌, �
 ghost use Rattle.mb_geom.specs.Description.{symbols};
 ghost use Rattle.mb_window.specs.Symbols.{keep_at, is_whole, joined};
 ghost use Rattle.mb_window.specs.Assembled.{nothing_of};
-ghost use Rattle.mb_window.specs.Buffer.{missing_in, keep_run};
+ghost use Rattle.mb_window.specs.Buffer.{missing_in, keep_run, IsRun};
+ghost use Rattle.mb_window.specs.Window.{heard_more};
+ghost use Rattle.mb_alc.specs.PacketView.{body_seen};
 
-use crate::geometry::Geometry;
+use crate::geometry::{Geometry, Run};
+use mb_alc::Body;
 use mb_base::Memory;
 use mb_bits::{flip_bit, has_bit, words_for};
 use std::alloc::Global;
@@ -100,6 +103,15 @@ impl Assembly {
         put_at(&mut self.text, at, &bytes[..len]);
         flip_bit(&mut self.heard, place);
         self.missing -= 1;
+    }
+
+    /// Keeps the symbols of a payload that were not heard before.
+    pub fn hear(&mut self, run: Run, body: &Body<'_>)
+        requires { IsRun self.old.text (body_seen body.now) run }
+        ensures heard { self.new ≡ heard_more self.old (body_seen body.now) }
+        ensures missing { missing_in self.old.kept ≤ missing_in self.new.kept + run.count }
+    {
+        self.keep_run(run.first, run.count, body.payload);
     }
 
     /// Keeps so many symbols at consecutive places, whose bytes follow each other.

@@ -1,13 +1,17 @@
-ghost use Rattle.std.specs.Prelude.{◌≡◌, ◌≤◌, [], length, IfOk, IfSome, Option, vec_len, vec_capacity, position, ◌==◌, ◌<◌, OnErr};
+ghost use Rattle.std.specs.Prelude.{◌≡◌, ◌≤◌, [], length, IfOk, IfSome, Option, vec_len, vec_capacity, position, ◌==◌, ◌<◌, OnErr, slice_index_or};
+ghost use Rattle.std.specs.Option.{option_map};
 ghost use Rattle.mb_alc.specs.PacketView.{body_seen};
 ghost use Rattle.mb_window.specs.Symbols as symbol;
 ghost use Rattle.mb_window.specs.Symbols.{symbols_of};
-ghost use Rattle.mb_window.specs.Window.{slots_most, slot_place, slot_at, with_room, with_slot, text_in, text_for, symbols_refused, hear_with, hear_symbols, hear, settle, clear, expire, buffered, buffered_most, Hears};
+ghost use Rattle.mb_window.specs.Assembled.{nothing_of};
+ghost use Rattle.mb_window.specs.Buffer.{IsRun};
+ghost use Rattle.mb_window.specs.declared.slot.Slot.{Slot};
+ghost use Rattle.mb_window.specs.Window.{assembled_in, assembled_so_far, slots_most, slot_place, slot_at, with_room, with_slot, text_in, text_for, symbols_refused, hear_with, hear_symbols, hear, settle, clear, expire, buffered, buffered_most, Hears};
 
 use crate::assembly::Assembly;
 use crate::geometry::{Geometry, Run};
 use crate::heard::WindowHeard;
-use crate::slot::{Slot, State};
+use crate::slot::{Slot, State, Turn};
 use mb_alc::{Body, Fti};
 use mb_base::{Bytes, Memory};
 use std::alloc::Global;
@@ -72,5 +76,108 @@ fn put_slot(slots: &mut Vec<Slot>, place: Option<usize>, slot: Slot)
             make_room(slots);
             slots.push_reserved(slot);
         }
+    }
+}
+
+/// The slot at a place.
+fn slot_in(slots: &[Slot], place: Option<usize>) -> Option<&Slot>
+    ensures { option_map (λ slot. slot.now) result ≡ slot_at place slots.now }
+{
+    slots.get(place?)
+}
+
+/// The geometry of the text that a packet is of, by its EXT_FTI and the instance's slot, or why it is dropped.
+fn geometry_for(slot: Option<&Slot>, fti: Option<&Fti>) -> Result<Geometry, WindowHeard>
+    ensures { result ≡ text_for (option_map (λ s. s.now) slot.entry) (option_map (λ f. f.now) fti.entry) }
+{
+    let given = match fti {
+        None => None,
+        Some(fti) => match Geometry::new(fti) {
+            None => return Err(WindowHeard::Shape),
+            Some(geometry) => Some(geometry),
+        },
+    };
+    match (slot, given) {
+        (None, None) => Err(WindowHeard::NoIds),
+        (None, Some(geometry)) => Ok(geometry),
+        (Some(slot), None) => Ok(slot.state.geometry().copy()),
+        (Some(slot), Some(geometry)) if geometry.is_same(slot.state.geometry()) => {
+            Ok(slot.state.geometry().copy())
+        }
+        (Some(_), Some(_)) => Err(WindowHeard::Differs),
+    }
+}
+
+/// Answers the text where it is whole, and else keeps it in the instance's slot.
+fn take_in(
+    slots: &mut Vec<Slot>,
+    place: Option<usize>,
+    id: u32,
+    assembly: Assembly,
+) -> WindowHeard
+    requires few { vec_len slots.old ≤ slots_most }
+    requires room { slots_most ≤ vec_capacity slots.old }
+    requires within { IfSome place (λ i. i < vec_len slots.old) }
+    ensures heard { Hears (hear_with id place slots.old.items assembly.text assembly.kept) slots.new.items result }
+    ensures few { vec_len slots.new ≤ slots_most }
+    ensures room { vec_capacity slots.new ≡ vec_capacity slots.old }
+{
+    if assembly.missing() == 0 {
+        return WindowHeard::Whole {
+            text: Bytes::from_vec(assembly.into_text()),
+        };
+    }
+    let state = State::Heard(assembly);
+    put_slot(slots, place, Slot { id, state });
+    WindowHeard::Part
+}
+
+/// Hears a packet of an instance that has no slot.
+fn hear_first(
+    alloc: Global,
+    slots: &mut Vec<Slot>,
+    id: u32,
+    geometry: Geometry,
+    run: Run,
+    body: &Body<'_>,
+) -> Result<WindowHeard, Memory>
+    requires few { vec_len slots.old ≤ slots_most }
+    requires room { slots_most ≤ vec_capacity slots.old }
+    requires run { IsRun geometry (body_seen body.now) run }
+    ensures heard { IfOk result (Hears (hear_symbols id None slots.old.items (body_seen body.now) (Some (nothing_of geometry))) slots.new.items) }
+    ensures refused { OnErr result (slots.new.items ≡ slots.old.items) }
+    ensures few { vec_len slots.new ≤ slots_most }
+    ensures room { slots_most ≤ vec_capacity slots.new }
+{
+    let mut assembly = Assembly::new(alloc, geometry)?;
+    assembly.hear(run, body);
+    Ok(take_in(slots, None, id, assembly))
+}
+
+/// Hears a packet of the instance whose slot stands at a place.
+fn hear_more(
+    alloc: Global,
+    slots: &mut Vec<Slot>,
+    place: usize,
+    id: u32,
+    run: Run,
+    body: &Body<'_>,
+) -> Result<WindowHeard, Memory>
+    requires few { vec_len slots.old ≤ slots_most }
+    requires room { slots_most ≤ vec_capacity slots.old }
+    requires within { place < vec_len slots.old }
+    requires id { (slot : Slot) → (slice_index_or slots.old.items place slot).id ≡ id }
+    requires run { (slot : Slot) → IsRun (text_in (slice_index_or slots.old.items place slot).state) (body_seen body.now) run }
+    ensures heard { (slot : Slot) → IfOk result (Hears (hear_symbols id (Some place) slots.old.items (body_seen body.now)
+        (assembled_in (slice_index_or slots.old.items place slot).state)) slots.new.items) }
+    ensures refused { OnErr result (slots.new.items ≡ slots.old.items) }
+    ensures few { vec_len slots.new ≤ slots_most }
+    ensures room { slots_most ≤ vec_capacity slots.new }
+{
+    let slot = &mut slots[place];
+    match slot.state.hear(alloc, run, body)? {
+        Turn::Done => Ok(WindowHeard::Done),
+        Turn::Kept => Ok(WindowHeard::Part),
+        Turn::Copied(assembly) => Ok(take_in(slots, Some(place), id, assembly)),
     }
 }
