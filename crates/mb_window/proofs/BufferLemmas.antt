@@ -1,10 +1,10 @@
 -- What a symbol does to the bytes and the bits of a text.
-use Rattle.std.proofs.Common.{◌≡◌, ℕ, zero, suc, replicate, ◌+◌, ◌-◌, ◌*◌, ◌<◌, ◌≤◌, min, Bool, true, false, List, [], ◌∷◌, ◌++◌, length, get_or, set, take, drop, Option, Some, None, is_some, refl, sym, ◌∙◌, ap, ap₂, arith}
+use Rattle.std.proofs.Common.{◌≡◌, ℕ, zero, suc, replicate, ◌+◌, ◌-◌, ◌*◌, ◌<◌, ◌≤◌, min, Bool, true, false, List, [], ◌∷◌, ◌++◌, length, get_or, set, take, drop, Option, Some, None, is_some, refl, sym, ◌∙◌, ap, arith}
 use Rattle.std.proofs.lemmas.Grind.{common_steps}
 use Rattle.std.proofs.Math.Nat.{mul-le-mul_right}
 use Rattle.std.proofs.lemmas.List.{length-take}
 use Rattle.mb_geom.specs.Description.{Description, symbols}
-use Rattle.mb_bits.specs.BitRow.{bit_in, row_from, row_of, Flips}
+use Rattle.mb_bits.specs.BitRow.{bit_in, row_of, Flips}
 use Rattle.mb_window.specs.Symbols.{keep_at, cut, place_of, hear_symbols, symbols_from}
 use Rattle.mb_window.specs.Buffer.{seen, seen_in, missing_in, IsBuffer, keep_run}
 use Rattle.mb_window.proofs.SeenLemmas.{length-row_from, row_from-get, row_from-set, length-seen, seen-get, seen-set, missing-set, row_from-none, seen-none}
@@ -84,8 +84,8 @@ pub cut-take : (d : Description) (place len : ℕ) (bytes : List ℕ) → len �
     → length bytes ≤ d.symbol → len ≤ length bytes → cut d place bytes ≡ take len bytes
 cut-take d place len bytes is most enough = cut_from (d.length - place * d.symbol) d.symbol len bytes is most enough
   where
-  cut_from : (k t len : ℕ) (bytes : List ℕ) → len ≡ min t k → length bytes ≤ t → len ≤ length bytes → take k bytes ≡ take len bytes
-  cut_from k t len bytes is most enough = grind (arith, common_steps)
+    cut_from : (k t len : ℕ) (bytes : List ℕ) → len ≡ min t k → length bytes ≤ t → len ≤ length bytes → take k bytes ≡ take len bytes
+    cut_from k t len bytes is most enough = grind (arith, common_steps)
 
 -- a symbol that is kept
 pub keep-new : (d : Description) (kept : List (Option (List ℕ))) (place : ℕ) (bytes piece : List ℕ)

@@ -1,16 +1,19 @@
 -- When a text is whole, and what a packet then does to the window.
-use Rattle.std.proofs.Common.{◌≡◌, ℕ, zero, suc, ◌+◌, ◌-◌, ◌*◌, ◌<◌, ◌≤◌, Bool, true, false, cond, List, [], ◌∷◌, length, get_or, set, take, drop, Option, Some, None, is_some, refl, sym, ◌∙◌, ap, ap₂, arith, ◌==◌}
+use Rattle.std.proofs.Common.{◌≡◌, ℕ, zero, suc, ◌+◌, ◌<◌, ◌≤◌, Bool, true, false, cond, List, [], ◌∷◌, length, get_or, set, take, drop, Option, Some, None, Ok, Err, is_some, refl, ◌∙◌, ap, arith, ◌==◌}
 use Rattle.std.proofs.lemmas.Grind.{common_steps}
 use Rattle.mb_geom.specs.Description.{Description}
 use Rattle.mb_alc.specs.Packet.{Body}
 use Rattle.mb_window.specs.Symbols.{is_whole, joined, keep_at, cut, symbol_count}
-use Rattle.mb_window.specs.Assembled.{Assembled}
+use Rattle.mb_window.specs.Assembled.{Assembled, is_misshapen, same_text, text_of}
 use Rattle.mb_window.specs.Buffer.{missing_in, keep_run, IsRun}
-use Rattle.mb_window.specs.Window.{Hearing, hear_with, with_slot, heard_more}
+use Rattle.mb_window.specs.Window.{Hearing, hear_with, with_slot, heard_more, slot_place, slot_at, text_in, text_for, symbols_refused, hear, hear_symbols, assembled_in}
+use Rattle.std.specs.List.{slice_get}
+use Rattle.std.proofs.lemmas.List.Quantifiers.{position-Some}
+use Rattle.mb_alc.specs.declared.packet.Fti.{Fti}
 use Rattle.mb_window.specs.declared.geometry.Run.{Run}
 use Rattle.mb_window.specs.declared.slot.Slot.{Slot}
 use Rattle.mb_window.specs.declared.slot.State.TheVariants.{Heard}
-use Rattle.mb_window.specs.declared.heard.WindowHeard.TheVariants.{Whole, Part}
+use Rattle.mb_window.specs.declared.heard.WindowHeard.TheVariants.{Whole, Part, Shape, Differs}
 use Rattle.mb_window.proofs.SeenLemmas.{whole-missing}
 use Rattle.mb_window.proofs.BufferLemmas.{run-hear}
 
@@ -62,3 +65,34 @@ run-heard_more a body run is =
     ap (λ kept. let r : Assembled = record { text = a.text; kept = kept } in r)
     (ap (λ n. keep_run n a.text run.first body.payload a.kept) is.count_is
     ∙ run-hear (symbol_count a.text body) a.text body.sbn body.esi run.first body.payload a.kept is.first_is)
+
+-- ---- slots
+
+same_number : (m n : ℕ) → (m == n) ≡ true → m ≡ n
+same_number m n is = grind (arith, common_steps)
+
+pub found-id : (id : ℕ) (slots : List Slot) (place : ℕ) (d : Slot) → slot_place id slots ≡ Some place → (get_or slots place d).id ≡ id
+found-id id slots place d found = same_number (get_or slots place d).id id (position-Some (λ slot. slot.id == id) slots place d found).1
+
+slice_get_at : (slots : List Slot) (place : ℕ) (d : Slot) → place < length slots → slice_get slots place ≡ Some (get_or slots place d)
+slice_get_at [] place d within = absurd (omega arith)
+slice_get_at (slot ∷ slots) zero d within = refl
+slice_get_at (slot ∷ slots) (suc place) d within = slice_get_at slots place d (omega arith)
+
+pub found-slot : (id : ℕ) (slots : List Slot) (place : ℕ) (d : Slot) → slot_place id slots ≡ Some place → slot_at (Some place) slots ≡ Some (get_or slots place d)
+found-slot id slots place d found = slice_get_at slots place d (position-Some (λ slot. slot.id == id) slots place d found).0
+
+text_if : (misshapen same : Bool) (t d : Description) → cond misshapen (Err Shape) (cond same (Ok t) (Err Differs)) ≡ Ok d → d ≡ t
+text_if true same t d is = cc
+text_if false true t d is = cc
+text_if false false t d is = cc
+
+pub text_for-slot : (slot : Slot) (fti : Option Fti) (d : Description) → text_for (Some slot) fti ≡ Ok d → d ≡ text_in slot.state
+text_for-slot slot None d is = cc
+text_for-slot slot (Some fti) d is = text_if (is_misshapen fti) (same_text (text_of fti) (text_in slot.state)) (text_in slot.state) d is
+
+-- a packet of an instance that has a slot, which is not dropped
+pub hear-found : (id : ℕ) (fti : Option Fti) (body : Body) (slots : List Slot) (place : ℕ) (d : Description) (slot : Slot)
+    → slot_place id slots ≡ Some place → text_for (slot_at (Some place) slots) fti ≡ Ok d → symbols_refused d body ≡ None
+    → slot_at (Some place) slots ≡ Some slot → hear id fti body slots ≡ hear_symbols id (Some place) slots body (assembled_in slot.state)
+hear-found id fti body slots place d slot found text good at = rw (found, text, good, at) refl

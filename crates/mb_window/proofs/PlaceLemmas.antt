@@ -1,6 +1,5 @@
 -- Where a block begins among the symbols of all blocks.
-use Rattle.std.proofs.Common.{◌≡◌, ℕ, zero, suc, ◌+◌, ◌-◌, ◌*◌, ◌/◌, ◌%◌, min, ◌<◌, ◌≤◌, List, ◌++◌, length, take, replicate, sum, refl, sym, ◌∙◌, ap, arith}
-use Rattle.std.specs.List.{sum_by}
+use Rattle.std.proofs.Common.{◌≡◌, ℕ, ◌+◌, ◌-◌, ◌*◌, ◌/◌, ◌%◌, min, ◌<◌, ◌≤◌, ◌++◌, length, take, replicate, sum, refl, sym, ◌∙◌, ap, arith}
 use Rattle.std.proofs.Math.Seq.{take-append-add}
 use Rattle.std.proofs.lemmas.List.{take-append-le, take-replicate, length-replicate}
 use Rattle.std.proofs.lemmas.List.Sums.{sum_by-append}
@@ -22,7 +21,7 @@ things-first p number before =
 things_after : (p : Parts) (m : ℕ) → m ≤ p.js → sum (take (p.jl + m) (sizes_of p)) ≡ p.jl * p.il + m * p.is
 things_after p m few =
     let cut : take (p.jl + m) (sizes_of p) ≡ replicate p.jl p.il ++ take m (replicate p.js p.is) =
-        ap (λ k. take (k + m) (sizes_of p)) (sym (length-replicate p.jl p.il)) ∙ take-append-add (replicate p.jl p.il) (replicate p.js p.is) m in
+    ap (λ k. take (k + m) (sizes_of p)) (sym (length-replicate p.jl p.il)) ∙ take-append-add (replicate p.jl p.il) (replicate p.js p.is) m in
     ap sum (cut ∙ ap (λ xs. replicate p.jl p.il ++ xs) (take-replicate m p.js p.is few))
     ∙ sum_by-append (λ x. x) (replicate p.jl p.il) (replicate m p.is)
     ∙ simp sum_by-replicate

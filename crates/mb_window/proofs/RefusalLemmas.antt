@@ -1,10 +1,10 @@
 -- Why a text has no such symbols, and that a payload has the bytes of those that it has.
-use Rattle.std.proofs.Common.{◌≡◌, ℕ, zero, suc, ◌+◌, ◌-◌, ◌*◌, ◌/◌, ◌%◌, ◌<◌, ◌≤◌, min, max, Bool, true, false, not, nat_lt, nat_le, ◌==◌, ◌&&◌, ◌||◌, ◌⊎◌, inl, inr, length, Option, Some, None, refl, sym, ◌∙◌, ap, ap₂, arith}
+use Rattle.std.proofs.Common.{◌≡◌, ℕ, zero, suc, ◌+◌, ◌-◌, ◌*◌, ◌%◌, ◌<◌, ◌≤◌, min, max, Bool, true, false, nat_lt, nat_le, ◌==◌, ◌&&◌, ◌||◌, ◌⊎◌, inl, inr, length, Some, None, refl, arith}
 use Rattle.std.proofs.lemmas.Grind.{common_steps}
 use Rattle.mb_geom.specs.Description.{Description, symbols, block_count, block_size, tail}
 use Rattle.mb_alc.specs.Packet.{Body}
 use Rattle.mb_window.specs.Symbols.{symbol_count, place_of}
-use Rattle.mb_window.specs.Assembled.{is_past_block, is_good_length, short_bytes}
+use Rattle.mb_window.specs.Assembled.{is_good_length}
 use Rattle.mb_window.specs.Window.{symbols_refused}
 use Rattle.mb_window.specs.declared.heard.WindowHeard.TheVariants.{Block, Symbol, Length}
 

@@ -1,10 +1,9 @@
 -- What is seen of a text's bytes and bits: of none, with one symbol more, and of all.
-use Rattle.std.proofs.Common.{◌≡◌, ◌≢◌, ℕ, zero, suc, ◌+◌, ◌-◌, ◌*◌, ◌/◌, ◌%◌, ◌<◌, ◌≤◌, min, Bool, true, false, not, cond, ◌⊎◌, inl, inr, List, [], ◌∷◌, ◌++◌, length, get_or, set, take, drop, replicate, map, Option, Some, None, is_some, unwrap_or, refl, sym, ◌∙◌, ap, ap₂, arith, ◌==◌, length-drop, add-one}
-use Rattle.std.specs.List.{list_all, concat}
+use Rattle.std.proofs.Common.{◌≡◌, ◌≢◌, ℕ, zero, suc, ◌+◌, ◌-◌, ◌*◌, ◌/◌, ◌%◌, ◌<◌, ◌≤◌, min, Bool, true, false, not, cond, List, [], ◌∷◌, ◌++◌, length, get_or, set, take, drop, replicate, Option, Some, None, is_some, refl, sym, ◌∙◌, ap, ap₂, arith, ◌==◌, length-drop, add-one}
 use Rattle.std.proofs.lemmas.Grind.{common_steps}
-use Rattle.std.proofs.lemmas.List.{take-append-drop, take-append-le, drop-append-le, drop-take, length-take, length-replicate}
+use Rattle.std.proofs.lemmas.List.{take-append-drop, drop-append-le, drop-take, length-take}
 use Rattle.std.proofs.lemmas.Nat.Bits.{bit_at-zero}
-use Rattle.mb_bits.specs.BitRow.{bit_in, row_from, row_of, Flips}
+use Rattle.mb_bits.specs.BitRow.{bit_in, row_from, Flips}
 use Rattle.mb_window.specs.Symbols.{is_whole, joined}
 use Rattle.mb_window.specs.Buffer.{seen, missing_in}
 

@@ -1,8 +1,7 @@
 -- The text of an FDT Instance under Compact No-Code (RFC 3926 sections 3.4 and 5.1), as far as it was heard.
-use Rattle.std.specs.Prelude.{ℕ, ◌+◌, ◌-◌, ◌*◌, ◌%◌, ◌<◌, ◌≤◌, ◌^◌, ◌==◌, ◌||◌, ◌&&◌, Bool, not, nat_lt, nat_le, List, [], length, replicate, max, Option, None}
+use Rattle.std.specs.Prelude.{ℕ, ◌+◌, ◌%◌, ◌<◌, ◌≤◌, ◌^◌, ◌==◌, ◌||◌, ◌&&◌, Bool, nat_lt, nat_le, List, [], length, replicate, max, Option, None}
 use Rattle.mb_base.specs.Number.{be_number}
-use Rattle.mb_geom.specs.Partition.{ceiling}
-use Rattle.mb_geom.specs.Description.{Description, symbols, block_count, block_size, same_scheme, tail}
+use Rattle.mb_geom.specs.Description.{Description, symbols, block_size, same_scheme, tail}
 use Rattle.mb_geom.specs.declared.desc.Scheme.TheVariants.{NoCode}
 use Rattle.mb_alc.specs.Packet.{Body}
 use Rattle.mb_alc.specs.declared.packet.Fti.{Fti}

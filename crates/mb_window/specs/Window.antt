@@ -1,5 +1,5 @@
 -- The window: the FDT Instances whose texts are put together from packets, or were read.
-use Rattle.std.specs.Prelude.{◌≡◌, ℕ, ◌+◌, ◌*◌, ◌==◌, ◌<◌, ◌≤◌, ◌^◌, Bool, true, false, not, nat_lt, nat_le, if◌then◌else◌, List, [], ◌∷◌, ◌++◌, length, drop, filter, remove, position, sum_by, slice_get, slice_set, Option, Some, None, is_some, Result, Ok, Err}
+use Rattle.std.specs.Prelude.{◌≡◌, ℕ, ◌+◌, ◌*◌, ◌==◌, Bool, false, not, nat_lt, nat_le, if◌then◌else◌, List, [], ◌∷◌, ◌++◌, length, drop, filter, remove, position, sum_by, slice_get, slice_set, Option, Some, None, is_some, Result, Ok, Err}
 use Rattle.mb_geom.specs.Partition.{ceiling}
 use Rattle.mb_geom.specs.Description.{Description, symbols, block_count}
 use Rattle.mb_alc.specs.Packet.{Body}
@@ -22,6 +22,10 @@ slots_most = 16
 -- where the instance's slot stands
 abbrev pub slot_place : ℕ → List Slot → Option ℕ
 slot_place id slots = position (λ slot. slot.id == id) slots
+
+-- whether it has one
+abbrev pub has : ℕ → List Slot → Bool
+has id slots = is_some (slot_place id slots)
 
 abbrev pub slot_at : Option ℕ → List Slot → Option Slot
 slot_at None slots = None

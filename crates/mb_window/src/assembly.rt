@@ -1,4 +1,5 @@
 ghost use Rattle.std.specs.Prelude.{◌≡◌, ℕ, ◌+◌, ◌*◌, ◌-◌, ◌<◌, ◌≤◌, ◌^◌, ◌⊎◌, ◌++◌, take, drop, min, length, IfOk, vec_len};
+ghost use Rattle.mb_geom.specs.Partition.{ceiling};
 ghost use Rattle.mb_geom.specs.Description.{symbols};
 ghost use Rattle.mb_window.specs.Symbols.{keep_at, is_whole, joined};
 ghost use Rattle.mb_window.specs.Assembled.{nothing_of};
@@ -77,6 +78,14 @@ impl Assembly {
         ensures { result ≡ missing_in self.now.kept }
     {
         self.missing
+    }
+
+    /// The bytes of the text and of its bits.
+    pub fn buffered(&self) -> u64
+        ensures exact { result ≡ self.now.text.length + 8 * ceiling (symbols self.now.text) 64 }
+        ensures most { result ≤ 73728 }
+    {
+        self.geometry.length() as u64 + 8 * words_for(self.geometry.symbols()) as u64
     }
 
     /// The text, of which each symbol was heard.

@@ -49,7 +49,11 @@ fn size_of(parts: Parts, number: u64) -> u64
     requires { number < length (sizes_of parts) }
     ensures { result ≡ slice_index (sizes_of parts) number }
 {
-    if number < parts.jl { parts.il } else { parts.is }
+    if number < parts.jl {
+        parts.il
+    } else {
+        parts.is
+    }
 }
 
 /// How many things the parts before one hold, by its number from 0.

@@ -1,8 +1,8 @@
-ghost use Rattle.std.specs.Prelude.{◌≡◌, IfOk, OnErr};
+ghost use Rattle.std.specs.Prelude.{◌≡◌, ◌≤◌, IfOk, OnErr};
 ghost use Rattle.mb_alc.specs.PacketView.{body_seen};
 ghost use Rattle.mb_window.specs.Buffer.{IsRun};
 ghost use Rattle.mb_window.specs.Turn.{IsTurn};
-ghost use Rattle.mb_window.specs.Window.{text_in};
+ghost use Rattle.mb_window.specs.Window.{text_in, is_expired, buffer_of};
 
 use crate::assembly::Assembly;
 use crate::geometry::{Geometry, Run};
@@ -64,5 +64,26 @@ impl State {
         let mut copy = assembly.copy(alloc)?;
         copy.hear(run, body);
         Ok(Turn::Copied(copy))
+    }
+
+    /// Whether it was read and expired before `clock`.
+    pub fn is_expired(&self, clock: u64) -> bool
+        ensures { result ≡ is_expired clock self.now }
+    {
+        match self {
+            State::Read { expires, .. } => *expires < clock,
+            State::Heard(_) => false,
+        }
+    }
+
+    /// The bytes of a text that is put together, and of its bits.
+    pub fn buffered(&self) -> u64
+        ensures exact { result ≡ buffer_of self.now }
+        ensures most { result ≤ 73728 }
+    {
+        match self {
+            State::Read { .. } => 0,
+            State::Heard(assembly) => assembly.buffered(),
+        }
     }
 }

@@ -1,4 +1,4 @@
-use Rattle.std.proofs.Common.{rules, ◌≡◌, ℕ, ◌<◌, refl, sym, ap, ◌∙◌, arith}
+use Rattle.std.proofs.Common.{◌≡◌, ◌<◌, refl, sym, ap, ◌∙◌, arith}
 use Rattle.mb_window.specs.Buffer.{missing_in}
 use Rattle.mb_window.specs.declared.heard.WindowHeard.TheVariants.{Whole}
 use Rattle.mb_window.proofs.HearLemmas.{heard-whole, heard-part, missing-some_left}

@@ -1,7 +1,6 @@
-use Rattle.std.proofs.Common.{◌≡◌, ◌≤◌, ◌+◌, refl, sym, ap, ◌∙◌, arith}
+use Rattle.std.proofs.Common.{ap, ◌∙◌}
 use Rattle.mb_alc.specs.PacketView.{body_seen}
 use Rattle.mb_window.specs.Assembled.{Assembled}
-use Rattle.mb_window.specs.Buffer.{missing_in, keep_run}
 use Rattle.mb_window.proofs.HearLemmas.{missing-run, run-heard_more}
 use Rattle.mb_window.proofs.assembly.Assembly.hear.Goals as goal
 

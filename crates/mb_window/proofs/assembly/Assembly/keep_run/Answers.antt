@@ -1,4 +1,4 @@
-use Rattle.std.proofs.Common.{rules, ◌≡◌, ℕ, ◌+◌, ◌*◌, ◌-◌, ◌<◌, ◌≤◌, length, min, List, Option, arith, refl, sym, ap, ◌∙◌}
+use Rattle.std.proofs.Common.{rules, ◌≡◌, ◌+◌, ◌-◌, ◌<◌, length, min, arith, ap, ◌∙◌}
 use Rattle.mb_window.specs.Symbols.{keep_at}
 use Rattle.mb_window.specs.Assembled.{Assembled}
 use Rattle.mb_window.specs.Buffer.{keep_run}
@@ -13,7 +13,7 @@ loop-left-preserved c =
     let text : c.keep.new.self.text ≡ c.args.self.now.text = ap (λ (a : Assembled). a.text) c.keep.ensures ∙ i.text in
     let symbol_is : c.symbol-symbol.result ≡ c.args.self.now.text.symbol = i.symbol in
     let kept : c.keep.new.self.kept ≡ keep_at c.args.self.now.text l.place c.split_at.result.0.now l.self.kept =
-        ap (λ (a : Assembled). a.kept) c.keep.ensures ∙ ap (λ d. keep_at d l.place c.split_at.result.0.now l.self.kept) i.text in
+    ap (λ (a : Assembled). a.kept) c.keep.ensures ∙ ap (λ d. keep_at d l.place c.split_at.result.0.now l.self.kept) i.text in
     let some : 0 < l.left = omega arith in
     let by_text : c.min.result ≡ min c.args.self.now.text.symbol (length l.rest.now) = rw (← symbol_is) m in
     record {
@@ -25,6 +25,6 @@ loop-left-preserved c =
           rw back (bytes-step l.left l.place c.symbol-symbol.result c.args.self.now.text.length (length l.rest.now) c.min.result some i.bytes m);
       run = ap (keep_run (l.left - 1) c.args.self.now.text (l.place + 1) c.split_at.result.1.now) kept
           ∙ run-step l.left c.args.self.now.text l.place c.min.result l.rest.now c.split_at.result.0.now c.split_at.result.1.now l.self.kept
-              some by_text c.split_at.ensures.front c.split_at.ensures.back
+          some by_text c.split_at.ensures.front c.split_at.ensures.back
           ∙ i.run;
     }

@@ -1,6 +1,5 @@
-use Rattle.std.proofs.Common.{rules, ◌≡◌, ℕ, ◌+◌, ◌*◌, ◌<◌, ◌≤◌, length, arith, refl, sym, ap, ◌∙◌}
-use Rattle.mb_geom.specs.Partition.{sizes_of}
-use Rattle.mb_geom.specs.Description.{symbols, block_sizes, block_count}
+use Rattle.std.proofs.Common.{◌≡◌, length, ap, ◌∙◌}
+use Rattle.mb_geom.specs.Description.{symbols}
 use Rattle.mb_geom.proofs.BlockLemmas.{length-sizes_of}
 use Rattle.mb_window.specs.Assembled.{text_with}
 use Rattle.mb_window.proofs.PlaceLemmas.{blocks-exact}
@@ -11,11 +10,11 @@ returns-clause-exact c =
     let g = c.self.inside in
     let count : c.symbols-symbols.result ≡ symbols (text_with g.length g.symbol g.max_block) = rw (← c.self.view_is) at c.symbols-symbols.ensures.exact in
     rw (← c.self.view_is) (blocks-exact g.length g.symbol g.max_block c.symbols-symbols.result c.div_ceil.result c.partition.result
-        c.self.invariant.block_some count c.div_ceil.ensures c.partition.ensures.exact)
+    c.self.invariant.block_some count c.div_ceil.ensures c.partition.ensures.exact)
 
 pub returns-clause-count : goal.returns-clause-count
 returns-clause-count c =
     let g = c.self.inside in
     let count : c.symbols-symbols.result ≡ symbols (text_with g.length g.symbol g.max_block) = rw (← c.self.view_is) at c.symbols-symbols.ensures.exact in
     rw (← c.self.view_is) (ap length (blocks-exact g.length g.symbol g.max_block c.symbols-symbols.result c.div_ceil.result c.partition.result
-        c.self.invariant.block_some count c.div_ceil.ensures c.partition.ensures.exact)) ∙ length-sizes_of c.partition.result
+    c.self.invariant.block_some count c.div_ceil.ensures c.partition.ensures.exact)) ∙ length-sizes_of c.partition.result

@@ -1,9 +1,6 @@
-use Rattle.std.proofs.Common.{◌≡◌, ◌<◌, ◌+◌, false, refl, sym, ap, ◌∙◌, arith}
-use Rattle.mb_alc.specs.PacketView.{body_seen}
-use Rattle.mb_window.specs.Assembled.{Assembled}
+use Rattle.std.proofs.Common.{◌≡◌, ◌<◌, false, ap, arith}
 use Rattle.mb_window.specs.Symbols.{is_whole}
 use Rattle.mb_window.specs.Buffer.{missing_in}
-use Rattle.mb_window.specs.Window.{heard_more}
 use Rattle.mb_window.specs.declared.slot.State.TheVariants.{Heard}
 use Rattle.mb_window.proofs.HearLemmas.{missing-some_left}
 use Rattle.mb_window.proofs.slot.State.hear.Goals as goal
