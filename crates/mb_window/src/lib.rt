@@ -10,3 +10,6 @@ mod window;
 
 pub use heard::WindowHeard;
 pub use window::Window;
+
+#[cfg(test)]
+mod window_tests;
