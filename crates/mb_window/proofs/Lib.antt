@@ -3,3 +3,4 @@ pub mod BufferLemmas
 pub mod PlaceLemmas
 pub mod RefusalLemmas
 pub mod HearLemmas
+pub mod LawLemmas

@@ -3,3 +3,4 @@ pub mod Assembled
 pub mod Window
 pub mod Buffer
 pub mod Turn
+pub mod Laws

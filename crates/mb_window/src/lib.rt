@@ -5,10 +5,12 @@
 mod assembly;
 mod geometry;
 mod heard;
+mod laws;
 mod slot;
 mod window;
 
 pub use heard::WindowHeard;
+pub use laws::whole_is_sent;
 pub use window::Window;
 
 #[cfg(test)]
