@@ -1,0 +1,4 @@
+pub mod LimitLemmas
+pub mod PartLemmas
+pub mod RowLemmas
+pub mod FileLemmas
