@@ -2,3 +2,4 @@ pub mod LimitLemmas
 pub mod PartLemmas
 pub mod RowLemmas
 pub mod FileLemmas
+pub mod OneReading

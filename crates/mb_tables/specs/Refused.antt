@@ -127,9 +127,9 @@ abbrev pub Tells : Option (List ℕ) → (List ℕ → Type 0) → Type 0
 Tells None P = ⊤
 Tells (Some bytes) P = P bytes
 
--- the answer to bytes that are told, where it isn't free
+-- The answer to bytes that are told is their reading, or it is free.
 abbrev pub ReadsTold : Option (List ℕ) → Result RaptorTables TablesFault → Type 0
-ReadsTold told result = IsFree result ⊎ Tells told (λ bytes. Reads bytes result)
+ReadsTold told result = IsFree result ⊎ Tells told (λ bytes. IsReadingOf bytes result)
 
 -- The row isn't added to the rows by this fault. Memory is wanted only for a row that can be added.
 abbrev pub IsNotAdded : List Row → Row → AddFault → Type 0

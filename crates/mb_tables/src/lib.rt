@@ -7,6 +7,8 @@ mod limits;
 mod reader;
 mod row;
 mod tables;
+#[cfg(test)]
+mod tables_tests;
 mod writer;
 
 pub use fault::{AddFault, TablesFault};

@@ -1,9 +1,9 @@
-ghost use Rattle.std.specs.Prelude.{◌≡◌, ℕ, Ok, Err, ◌+◌, ◌*◌, ◌<◌, ◌≤◌, ◌++◌, ◌^◌, [], length, flat_map, take, drop, All, IfOk, IfErr, OnOk, List, Option};
+ghost use Rattle.std.specs.Prelude.{IsTrue, false, ◌≡◌, ℕ, Ok, Err, ◌+◌, ◌*◌, ◌<◌, ◌≤◌, ◌++◌, ◌^◌, [], length, flat_map, take, drop, All, IfOk, IfErr, OnOk, List, Option};
 ghost use Rattle.mb_base.specs.Outside.{Loses, EndsAt};
 ghost use Rattle.mb_base.specs.Number.{be_number, be_bytes};
 ghost use Rattle.mb_tables.specs.Limits.{IsRow};
 ghost use Rattle.mb_tables.specs.Tables.{AreWords, AreRows, IsAbove, IsRising, IsTables, magic, row_bytes, head_bytes};
-ghost use Rattle.mb_tables.specs.Refused.{Tells};
+ghost use Rattle.mb_tables.specs.Refused.{Tells, ReadsTold};
 ghost use Rattle.mb_tables.specs.Parts.{IsShort, StopsAt, StopsBehind, IsBehind, ReadsHead, Explains, HasFaultCause};
 
 use crate::fill::fill;
@@ -110,6 +110,15 @@ fn row_of(bytes: &[u8]) -> Row
     }
 }
 
+/// Whether K, where `count` bytes of its row were read, is above that of the rows before or was not read.
+fn is_in_order(count: usize, rows: &[Row], k: u16) -> bool
+    requires { IsRising rows.now }
+    ensures above { IsTrue result → 2 ≤ count → IsAbove k rows.now }
+    ensures below { result ≡ false → (2 ≤ count) × (IsAbove k rows.now → ⊥) }
+{
+    count < 2 || is_above(rows, k)
+}
+
 fn read_row<S: Source>(src: &mut S, rows: &[Row]) -> Result<Row, TablesFault>
     requires rising { IsRising rows.now }
     requires few { length rows.now < 2 ^ 16 }
@@ -123,7 +132,7 @@ fn read_row<S: Source>(src: &mut S, rows: &[Row]) -> Result<Row, TablesFault>
     let count = fill(src, &mut bytes)?;
     let number = rows.len() as u16;
     let row = row_of(&bytes);
-    if 2 <= count && !is_above(rows, row.k) {
+    if !is_in_order(count, rows, row.k) {
         return Err(TablesFault::Order(number));
     }
     if count < ROW {
@@ -201,10 +210,7 @@ fn read_end<S: Source>(src: &mut S) -> Result<(), TablesFault>
     }
 }
 
-/// Reads a tables file to the end of its source. The fault is the first in reading order: an `Order` is found
-/// where the row's K is read, and a `Range` where the whole row is. After a fault the source is left where it had
-/// come to.
-pub fn read_tables<S: Source>(alloc: Global, src: &mut S) -> Result<Tables, TablesFault>
+fn read_file<S: Source>(alloc: Global, src: &mut S) -> Result<Tables, TablesFault>
     ensures read { IfOk result (λ tables. Tells (S.left src.old) (λ bytes. IsTables bytes tables)) }
     ensures end { OnOk result (EndsAt (S.left src.new)) }
     ensures refused { IfErr result (λ fault. Tells (S.left src.old) (Explains fault)) }
@@ -223,4 +229,20 @@ pub fn read_tables<S: Source>(alloc: Global, src: &mut S) -> Result<Tables, Tabl
         Ok(()) => Ok(Tables::from_parts(alloc, head.v0, head.v1, rows)),
         Err(fault) => Err(fault),
     }
+}
+
+/// Reads a tables file to the end of its source. The fault is the first in reading order: an `Order` is found
+/// where the row's K is read, and a `Range` where the whole row is. After a fault the source is left where it had
+/// come to.
+pub fn read_tables<S: Source>(alloc: Global, src: &mut S) -> Result<Tables, TablesFault>
+    // Each answer but one that the source or memory is the cause of is the one that reading the bytes gives, and
+    // reading them gives no other.
+    ensures reads { ReadsTold (S.left src.old) result }
+    ensures read { IfOk result (λ tables. Tells (S.left src.old) (λ bytes. IsTables bytes tables)) }
+    ensures end { OnOk result (EndsAt (S.left src.new)) }
+    ensures refused { IfErr result (λ fault. Tells (S.left src.old) (Explains fault)) }
+    ensures cause { HasFaultCause (S.faults src.old) (S.faults src.new) result }
+    ensures same { S.made src.new ≡ S.made src.old }
+{
+    read_file(alloc, src)
 }

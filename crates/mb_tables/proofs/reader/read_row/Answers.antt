@@ -1,4 +1,4 @@
-use Rattle.std.proofs.Common.{◌≡◌, ◌++◌, take, length, refl, sym, ap, subst, ◌∙◌, arith}
+use Rattle.std.proofs.Common.{◌≡◌, true, ◌++◌, take, length, refl, sym, ap, subst, ◌∙◌, arith}
 use Rattle.std.proofs.lemmas.List.{take_all}
 use Rattle.std.proofs.lemmas.Grind.{common_steps}
 use Rattle.mb_base.specs.Outside.{Loses}
@@ -7,7 +7,6 @@ use Rattle.mb_tables.specs.Refused.{FitsFields}
 use Rattle.mb_tables.proofs.PartLemmas.{Loses-as, Tells-bytes}
 use Rattle.mb_tables.proofs.RowLemmas.{row-whole, row-fits}
 use Rattle.mb_tables.proofs.reader.read_row.Goals as goal
-use Rattle.mb_tables.proofs.reader.read_row.Goals.{else-count-ge2-via-then-count-ge2+else-not-is_above, else-count-ge2-via-else-count-ge2}
 
 pub returns-in-Some-clause-refused : goal.returns-in-Some-clause-refused
 returns-in-Some-clause-refused g c =
@@ -18,10 +17,8 @@ returns-in-Some-clause-refused g c =
     let len : length buf ≡ 8 = omega arith in
     let full : take c.in_ok-count.count buf ≡ buf = take_all _ _ (omega arith) in
     let moved = subst (Loses old new) full c.in_ok-count.ensures.moved in
-    let above : IsAbove row.k c.args.rows.now = elim c.else-count-ge2.branch [
-      | else-count-ge2-via-then-count-ge2+else-not-is_above w ↦ w.is_above.ensures.0 (grind (arith, common_steps))
-      | else-count-ge2-via-else-count-ge2 w ↦ absurd (omega (arith, w.if-count-ge2))
-    ] in
+    let yes : c.is_in_order.result ≡ true = grind (arith, common_steps) in
+    let above : IsAbove row.k c.args.rows.now = c.is_in_order.ensures.above yes (omega arith) in
     Tells-bytes old new buf _ (g.met.S.Source.bytes c.args.src.now) moved (λ are rest. (
       refl,
       record {
