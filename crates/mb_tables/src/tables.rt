@@ -161,3 +161,10 @@ pub fn make_row(_tables: &Tables, k: u16, j: u16) -> Row
 {
     made_row(k, j)
 }
+
+// Several workers read tables at once, so it is checked here that they can be sent and shared.
+fn is_shared<T: Send + Sync>(_value: &T) {}
+
+fn tables_are_shared(tables: &Tables) {
+    is_shared(tables);
+}
