@@ -1,0 +1,5 @@
+pub mod LimitLemmas
+pub mod PartLemmas
+pub mod RowLemmas
+pub mod FileLemmas
+pub mod OneReading
