@@ -1,0 +1,9 @@
+//! Blocks of symbols as far as they were heard: what is kept of a block, whether it is determined, and its source
+//! symbols (RFC 3926 section 5.1, RFC 5053).
+#![tactic(auto)]
+
+mod heard;
+mod way;
+
+pub use heard::Heard;
+pub use way::Way;
