@@ -2,3 +2,4 @@ pub mod PartitionLemmas
 pub mod BlockLemmas
 pub mod RefusalLemmas
 pub mod GoodLemmas
+pub mod SymbolLemmas

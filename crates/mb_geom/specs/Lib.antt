@@ -1,3 +1,4 @@
 pub mod Partition
 pub mod Description
 pub mod SourceSymbol
+pub mod Run

@@ -125,8 +125,9 @@ impl Model for Desc {
 }
 
 impl Scheme {
-    ghost use Rattle.std.specs.Prelude.{true, false, not, position, length, IfSome};
+    ghost use Rattle.std.specs.Prelude.{true, false, not, position, length, sum, IfSome};
     ghost use Rattle.mb_geom.specs.Partition.{ceiling, sizes_of};
+    ghost use Rattle.mb_geom.specs.SourceSymbol.{sub_sizes_of};
     ghost use Rattle.mb_geom.specs.Description.{is_no_code, SchemeFits, are_parameters, is_block_size, blocking, equations_of, equations_once};
 
     /// Whether it is Compact No-Code (RFC 3695), which has no repair symbols.
@@ -168,6 +169,7 @@ impl Scheme {
         requires symbol { 0 < symbol }
         requires parameters { are_parameters symbol self ≡ true }
         ensures exact { result ≡ blocking (ceiling length symbol) self }
+        ensures things { result.jl * result.il + result.js * result.is ≡ ceiling length symbol }
         ensures number { result.jl + result.js ≤ length + 2 ^ 16 }
         ensures longer { result.il ≤ length }
         ensures shorter { result.is ≤ result.il }
@@ -179,6 +181,27 @@ impl Scheme {
                 blocks => partition(symbols, blocks),
             },
             Scheme::Raptor { z, .. } => partition(symbols, u64::from(z)),
+        }
+    }
+
+    // How a symbol of so many bytes is divided into sub-symbols of so many bytes each.
+    pub(crate) fn sub_symbols(self, symbol: u16) -> Parts
+        requires { are_parameters symbol self ≡ true }
+        ensures exact { sizes_of result ≡ sub_sizes_of symbol self }
+        ensures whole { sum (sizes_of result) ≡ symbol }
+        ensures few { result.jl + result.js < 2 ^ 16 }
+    {
+        match self {
+            Scheme::NoCode { .. } => partition(u64::from(symbol), 1),
+            Scheme::Raptor { n, al, .. } => {
+                let unit = u64::from(al);
+                let units = partition(u64::from(symbol) / unit, u64::from(n));
+                Parts {
+                    il: units.il * unit,
+                    is: units.is * unit,
+                    ..units
+                }
+            }
         }
     }
 
@@ -285,7 +308,9 @@ impl DescParts {
 }
 
 impl Desc {
-    ghost use Rattle.std.specs.Prelude.{IsTrue, ◌↔◌, IsUtf8};
+    ghost use Rattle.std.specs.Prelude.{IsTrue, ◌↔◌, IsUtf8, sum};
+    ghost use Rattle.mb_geom.specs.Partition.{sizes_of};
+    ghost use Rattle.mb_geom.specs.SourceSymbol.{sub_sizes};
     ghost use Rattle.mb_geom.specs.Description.{IsGood, described, symbols, blocking, block_count, block_size, plain, equations, tail, same_description};
 
     /// The description that the parts make. A file has at most 2^28 bytes and 65,536 blocks, and each
@@ -358,19 +383,31 @@ impl Desc {
         ensures exact { result ≡ symbols self.now }
         ensures bound { result * self.now.symbol < self.now.length + self.now.symbol }
         ensures whole { self.now.length ≤ result * self.now.symbol }
+        ensures most { result ≤ self.now.length }
     {
         self.length.div_ceil(u64::from(self.symbol))
     }
 
     // How the symbols are divided into blocks.
     #[tactic(auto, unfolding(crate::specs::Description::block_sizes))]
-    fn parts(&self) -> Parts
+    pub(crate) fn parts(&self) -> Parts
         ensures exact { result ≡ blocking (symbols self.now) self.now.scheme }
+        ensures things { result.jl * result.il + result.js * result.is ≡ symbols self.now }
+        ensures few { result.jl * result.il + result.js * result.is ≤ 2 ^ 28 }
         ensures number { result.jl + result.js ≤ 65536 }
         ensures longer { result.il ≤ 65536 }
         ensures shorter { result.is ≤ result.il }
     {
         self.scheme.blocks(self.length, self.symbol)
+    }
+
+    // The lengths of the sub-symbols of a symbol, in bytes.
+    pub(crate) fn sub_symbols(&self) -> Parts
+        ensures exact { sizes_of result ≡ sub_sizes self.now }
+        ensures whole { sum (sizes_of result) ≡ self.now.symbol }
+        ensures few { result.jl + result.js < 2 ^ 16 }
+    {
+        self.scheme.sub_symbols(self.symbol)
     }
 
     /// The number of blocks, at most 65,536 (RFC 5053 section 5.3.1.2). An empty file has none.

@@ -5,6 +5,9 @@
 mod desc;
 mod laws;
 mod parts;
+mod runs;
+mod source_block;
+mod symbols;
 
 pub use desc::{Desc, DescFault, DescParts, Scheme};
 pub use laws::good_are_made;

@@ -35,7 +35,7 @@ pub fn partition(i: u64, j: u64) -> Parts
 }
 
 impl Parts {
-    ghost use Rattle.std.specs.Prelude.{length, slice_index, max};
+    ghost use Rattle.std.specs.Prelude.{length, slice_index, max, take, sum};
     ghost use Rattle.mb_geom.specs.Partition.{sizes_of};
 
     /// No parts, of no things.
@@ -61,5 +61,15 @@ impl Parts {
         ensures within { result ≤ max self.il self.is }
     {
         if number < self.jl { self.il } else { self.is }
+    }
+
+    /// The number of things in the parts before one, by its number from 0.
+    pub(crate) fn before(self, number: u64) -> u64
+        requires { self.jl * self.il + self.js * self.is < 2 ^ 64 }
+        ensures { result ≡ sum (take number (sizes_of self)) }
+    {
+        let longer = number.min(self.jl);
+        let shorter = (number - longer).min(self.js);
+        longer * self.il + shorter * self.is
     }
 }

@@ -1,4 +1,4 @@
-use Rattle.std.proofs.Common.{◌≡◌, ◌<◌, ◌∙◌, arith, rules}
+use Rattle.std.proofs.Common.{◌≡◌, ◌<◌, sym, ◌∙◌, arith, rules}
 use Rattle.std.proofs.lemmas.Grind.{common_steps}
 use Rattle.mb_geom.specs.Partition.{ceiling}
 use Rattle.mb_geom.proofs.PartitionLemmas.{ceiling-from, ceiling-le, longer-le, partition_of-none}
@@ -44,3 +44,11 @@ returns-in-Raptor-clause-longer c =
     let symbols_are : ceiling c.args.length c.args.symbol ≡ c.div_ceil-symbols.result =
     ceiling-from _ _ _ _ c.requires.symbol c.from.ensures c.div_ceil-symbols.ensures in
     omega (arith, longer-le c.partition-in-Raptor.result _ _ c.partition-in-Raptor.ensures.exact pos, ceiling-le c.args.length c.args.symbol c.requires.symbol, symbols_are)
+
+pub returns-in_default-clause-things : goal.returns-in_default-clause-things
+returns-in_default-clause-things c =
+    c.partition.ensures.things ∙ sym (ceiling-from _ _ _ _ c.requires.symbol c.from.ensures c.div_ceil-symbols.ensures)
+
+pub returns-in-Raptor-clause-things : goal.returns-in-Raptor-clause-things
+returns-in-Raptor-clause-things c =
+    c.partition-in-Raptor.ensures.things ∙ sym (ceiling-from _ _ _ _ c.requires.symbol c.from.ensures c.div_ceil-symbols.ensures)
