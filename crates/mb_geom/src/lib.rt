@@ -8,6 +8,8 @@ mod parts;
 mod runs;
 mod source_block;
 mod symbols;
+#[cfg(test)]
+mod symbols_tests;
 
 pub use desc::{Desc, DescFault, DescParts, Scheme};
 pub use laws::good_are_made;
