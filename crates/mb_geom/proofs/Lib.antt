@@ -3,3 +3,5 @@ pub mod BlockLemmas
 pub mod RefusalLemmas
 pub mod GoodLemmas
 pub mod SymbolLemmas
+pub mod FileLemmas
+pub mod LayoutLemmas

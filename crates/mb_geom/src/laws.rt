@@ -1,7 +1,14 @@
 ghost use Rattle.mb_geom.specs.Description.{GoodAreMade};
+ghost use Rattle.mb_geom.specs.SourceSymbol.{SymbolsMakeTheFile};
 
 /// The law of descriptions: each that [`Desc::new`](crate::Desc::new) makes of parts is good, and each good one comes
 /// from parts. It does nothing.
 pub fn good_are_made()
     ensures { GoodAreMade }
+{}
+
+/// The law of files: the source symbols of a file's blocks, joined sub-block by sub-block (RFC 5053 section 5.3.1.2)
+/// and cut at the file's length, are the file. It does nothing.
+pub fn symbols_make_the_file()
+    ensures { SymbolsMakeTheFile }
 {}
