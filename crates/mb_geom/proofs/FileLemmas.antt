@@ -3,12 +3,12 @@ use Rattle.std.proofs.Common.{◌≡◌, ℕ, zero, suc, ◌+◌, ◌*◌, ◌<�
 use Rattle.std.specs.List.{concat, range_with_len}
 use Rattle.std.proofs.lemmas.List.{map-append, append-nil, take_all, drop-map}
 use Rattle.std.proofs.lemmas.List.Folds.{concat-append}
-use Rattle.std.proofs.lemmas.List.Sums.{sum_by-cons, sum_by_more}
+use Rattle.std.proofs.lemmas.List.Sums.{sum_by_more}
 use Rattle.std.proofs.lemmas.List.FromFn.{take-map-range_with_len, map-range_with_len_more, fill_by_all}
 use Rattle.std.proofs.lemmas.Simd.{map-map}
 use Rattle.mb_geom.specs.Description.{Description, block_sizes, block_size, block_count}
 use Rattle.mb_geom.specs.SourceSymbol.{place_in_block, sub_sizes, symbols_before, source_symbol, source_symbols, source_blocks, joined_block, joined_file}
-use Rattle.mb_geom.proofs.SymbolLemmas.{place-first, place-later}
+use Rattle.mb_geom.proofs.SymbolLemmas.{sum-cons, place-first, place-later}
 
 -- ---- runs of numbers, and what a function makes of them
 
@@ -122,7 +122,7 @@ block-joined f [] k =
     let none : k * 0 ≡ 0 = omega arith in
     rw none refl
 block-joined f (size ∷ others) k =
-    let whole : size + sum others ≡ sum (size ∷ others) = sym (sum_by-cons (λ (y : ℕ). y) size others) in
+    let whole : size + sum others ≡ sum (size ∷ others) = sym (sum-cons size others) in
     subst (λ (t : ℕ). joined_block (size ∷ others) (block_symbols f (size ∷ others) k t) ≡ map f (range_with_len 0 (k * t))) whole
     (block_step f size others k (sum others) (block-joined (λ p. f (k * size + p)) others k))
 

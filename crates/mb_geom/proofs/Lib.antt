@@ -5,3 +5,4 @@ pub mod GoodLemmas
 pub mod SymbolLemmas
 pub mod FileLemmas
 pub mod LayoutLemmas
+pub mod JoinedLemmas

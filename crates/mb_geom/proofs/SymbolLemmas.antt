@@ -20,7 +20,7 @@ place-later size k i j others =
     let back : size + j - size ≡ j = omega arith in
     rw (le-ltb (size + j) size le, back) refl
 
-sum-cons : (x : ℕ) (xs : List ℕ) → sum (x ∷ xs) ≡ x + sum xs
+pub sum-cons : (x : ℕ) (xs : List ℕ) → sum (x ∷ xs) ≡ x + sum xs
 sum-cons x xs = sum_by-cons (λ (y : ℕ). y) x xs
 
 -- byte r of sub-symbol s stands behind the sub-blocks before, and there behind those of the symbols before

@@ -12,5 +12,5 @@ mod symbols;
 mod symbols_tests;
 
 pub use desc::{Desc, DescFault, DescParts, Scheme};
-pub use laws::{good_are_made, symbols_make_the_file};
+pub use laws::{good_are_made, symbols_make_the_file, the_file_has_its_symbols};
 pub use parts::{Parts, partition};
