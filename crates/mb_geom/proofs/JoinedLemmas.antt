@@ -4,10 +4,10 @@ use Rattle.std.specs.List.{concat, AllByRecursion}
 use Rattle.std.proofs.lemmas.Bool.{cases_lt}
 use Rattle.std.proofs.lemmas.Nat.{mul-le}
 use Rattle.std.proofs.lemmas.List.{length-append, length-map, length-take, length-drop, get_or_append_left, get_or-append-add, get_or-take, get_or-drop, get_or-map, take_all}
-use Rattle.mb_geom.specs.Description.{Description, block_sizes, block_size, block_count}
+use Rattle.mb_geom.specs.Description.{Description, IsGood, block_sizes, block_size, block_count}
 use Rattle.mb_geom.specs.SourceSymbol.{place_in_block, sub_sizes, place_of_byte, joined_block, joined_file, AreBlocks, TheFileHasItsSymbols}
 use Rattle.mb_geom.proofs.SymbolLemmas.{sum-cons, place-first, place-later, place-below}
-use Rattle.mb_geom.proofs.LayoutLemmas.{sum-sub_sizes}
+use Rattle.mb_geom.proofs.LayoutLemmas.{sum-sub_sizes, layout-of}
 
 -- rows of t bytes each
 abbrev AreLong : ℕ → List (List ℕ) → Type 0
@@ -107,24 +107,54 @@ place-within sizes k i j within lt =
     let all : take (length sizes) sizes ≡ sizes = take_all (length sizes) sizes (omega arith) in
     rw all at (place-below sizes (length sizes) k i j within (rw all lt))
 
+are-long : (d : Description) (blocks : List (List (List ℕ))) (m : ℕ) → sum (sub_sizes d) ≡ d.symbol → AreBlocks d blocks → m < block_count d →
+    AreLong (sum (sub_sizes d)) (get_or blocks m [])
+are-long d blocks m whole are below = subst (λ (t : ℕ). AreLong t (get_or blocks m [])) (sym whole) (are.each m below).each
+
+piece-at : (d : Description) (blocks : List (List (List ℕ))) (m : ℕ) → AreBlocks d blocks → m < block_count d →
+    get_or (map (joined_block (sub_sizes d)) blocks) m [] ≡ joined_block (sub_sizes d) (get_or blocks m [])
+piece-at d blocks m are below = get_or-map (joined_block (sub_sizes d)) blocks m [] [] (omega (arith, are.number, below))
+
+length-piece : (d : Description) (blocks : List (List (List ℕ))) (m : ℕ) → sum (sub_sizes d) ≡ d.symbol → AreBlocks d blocks → m < block_count d →
+    length (get_or (map (joined_block (sub_sizes d)) blocks) m []) ≡ block_size d m * d.symbol
+length-piece d blocks m whole are below =
+    ap length (piece-at d blocks m are below)
+    ∙ length-joined (sub_sizes d) (get_or blocks m []) (are-long d blocks m whole are below)
+    ∙ rw ((are.each m below).number, whole) refl
+
 joined_file-at : (d : Description) (blocks : List (List (List ℕ))) (sbn i j : ℕ) → sum (sub_sizes d) ≡ d.symbol → AreBlocks d blocks →
     sbn < block_count d → i < block_size d sbn → j < d.symbol → place_of_byte d sbn i j < d.length →
     get_or (joined_file d blocks) (place_of_byte d sbn i j) 0 ≡ get_or (get_or (get_or blocks sbn []) i []) j 0
 unfolding joined_file
 joined_file-at d blocks sbn i j whole are block symbol byte inside =
     let pieces : List (List ℕ) = map (joined_block (sub_sizes d)) blocks in
-    let at : (m : ℕ) → m < block_count d → get_or pieces m [] ≡ joined_block (sub_sizes d) (get_or blocks m []) =
-    λ m below. get_or-map (joined_block (sub_sizes d)) blocks m [] [] (omega (arith, are.number, below)) in
-    let each : (m : ℕ) → m < block_count d → AreLong (sum (sub_sizes d)) (get_or blocks m []) =
-    λ m below. subst (λ (t : ℕ). AreLong t (get_or blocks m [])) (sym whole) (are.each m below).each in
-    let long : (m : ℕ) → m < block_count d → length (get_or pieces m []) ≡ get_or (block_sizes d) m 0 * d.symbol =
-    λ m below. (ap length (at m below) ∙ length-joined (sub_sizes d) (get_or blocks m []) (each m below) ∙ rw ((are.each m below).number, whole) refl) in
+    let place : ℕ = place_in_block (sub_sizes d) (block_size d sbn) i j in
     let lower : place_in_block (sub_sizes d) (block_size d sbn) i j < block_size d sbn * d.symbol =
     rw whole at (place-within (sub_sizes d) (block_size d sbn) i j symbol (omega (arith, whole, byte))) in
     get_or-take d.length (concat pieces) (place_of_byte d sbn i j) 0 inside
-    ∙ pieces-at d.symbol pieces (block_sizes d) sbn (place_in_block (sub_sizes d) (block_size d sbn) i j) (length-map blocks (joined_block (sub_sizes d)) ∙ are.number) long block lower
-    ∙ ap (λ piece. get_or piece (place_in_block (sub_sizes d) (block_size d sbn) i j) 0) (at sbn block)
-    ∙ joined-at (sub_sizes d) (get_or blocks sbn []) (block_size d sbn) i j (each sbn block) (are.each sbn block).number symbol (omega (arith, whole, byte))
+    ∙ pieces-at d.symbol pieces (block_sizes d) sbn place (length-map blocks (joined_block (sub_sizes d)) ∙ are.number)
+    (λ m below. length-piece d blocks m whole are below) block lower
+    ∙ ap (λ piece. get_or piece place 0) (piece-at d blocks sbn are block)
+    ∙ joined-at (sub_sizes d) (get_or blocks sbn []) (block_size d sbn) i j (are-long d blocks sbn whole are block) (are.each sbn block).number symbol (omega (arith, whole, byte))
+
+length-pieces : (t : ℕ) (pieces : List (List ℕ)) (counts : List ℕ) → length pieces ≡ length counts →
+    ((m : ℕ) → m < length counts → length (get_or pieces m []) ≡ get_or counts m 0 * t) → length (concat pieces) ≡ sum counts * t
+length-pieces t [] [] count long = omega arith
+length-pieces t [] (x ∷ counts) count long = absurd (omega arith)
+length-pieces t (piece ∷ pieces) [] count long = absurd (omega arith)
+length-pieces t (piece ∷ pieces) (x ∷ counts) count long =
+    let first : length piece ≡ x * t = long 0 (omega arith) in
+    let rest : length (concat pieces) ≡ sum counts * t = length-pieces t pieces counts (omega arith) (λ m below. long (suc m) (omega arith)) in
+    length-append piece (concat pieces) ∙ rw (first, rest, sum-cons x counts) (omega arith)
+
+-- what is joined has the file's length
+pub length-joined_file : (d : Description) (blocks : List (List (List ℕ))) → IsGood d → AreBlocks d blocks → length (joined_file d blocks) ≡ d.length
+unfolding joined_file
+length-joined_file d blocks good are =
+    let whole : length (concat (map (joined_block (sub_sizes d)) blocks)) ≡ sum (block_sizes d) * d.symbol =
+    length-pieces d.symbol (map (joined_block (sub_sizes d)) blocks) (block_sizes d) (length-map blocks (joined_block (sub_sizes d)) ∙ are.number)
+    (λ m below. length-piece d blocks m (sum-sub_sizes d good) are below) in
+    length-take d.length (concat (map (joined_block (sub_sizes d)) blocks)) ∙ omega (arith, whole, (layout-of d good).enough)
 
 -- the law of what is joined
 pub has_its_symbols : TheFileHasItsSymbols

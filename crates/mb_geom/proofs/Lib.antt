@@ -6,3 +6,4 @@ pub mod SymbolLemmas
 pub mod FileLemmas
 pub mod LayoutLemmas
 pub mod JoinedLemmas
+pub mod PlaceLemmas
