@@ -1,6 +1,6 @@
 -- A block as far as it was heard: the symbols that are kept of it, and what they determine.
-use Rattle.std.specs.Prelude.{ℕ, ◌+◌, ◌-◌, ◌*◌, ◌<◌, ◌≤◌, ◌^◌, Bool, not, nat_lt, if◌then◌else◌, List, [], ◌∷◌, ◌++◌, length, map, fold, replicate}
-use Rattle.std.specs.List.{range_with_len}
+use Rattle.std.specs.Prelude.{◌≡◌, ℕ, ◌+◌, ◌-◌, ◌*◌, ◌<◌, ◌≤◌, Bool, true, not, nat_lt, if◌then◌else◌, List, [], ◌∷◌, ◌++◌, length, map, fold, replicate}
+use Rattle.std.specs.List.{range_with_len, AllByRecursion}
 use Rattle.mb_geom.specs.Partition.{ceiling}
 use Rattle.mb_block.specs.Way.{size_of, is_in_range, is_determined, is_block_determined}
 use Rattle.mb_block.specs.declared.way.Way.{Way}
@@ -73,3 +73,20 @@ buffer_of (way.NoCode k) t = k * t + 8 * ceiling k 64
 -- the number of symbols of a block of this way is within its limits
 abbrev pub IsWay : Way → Type 0
 IsWay (way.NoCode k) = (0 < k) × (k ≤ 65536)
+
+-- numbers that rise, from the least on
+abbrev pub AreRising : ℕ → List ℕ → Type 0
+AreRising least [] = Unit {0}
+AreRising least (n ∷ others) = (least ≤ n) × AreRising (n + 1) others
+
+-- the block has a symbol with this ESI, and the symbol has t bytes
+abbrev pub IsPairOf : Way → ℕ → Pair → Type 0
+IsPairOf w t pair = (is_in_range w pair.esi ≡ true) × (length pair.symbol ≡ t)
+
+-- what holds of a block, whatever was heard of it
+pub record IsBlock (b : Block) : Type 0 where
+  pub way : IsWay b.way
+  pub some : 0 < b.symbol
+  pub few : length b.kept ≤ size_of b.way
+  pub pairs : AllByRecursion (IsPairOf b.way b.symbol) b.kept
+  pub rising : AreRising 0 (esis b.kept)

@@ -2,8 +2,10 @@
 //! symbols (RFC 3926 section 5.1, RFC 5053).
 #![tactic(auto)]
 
+mod block;
 mod heard;
 mod way;
 
+pub use block::{BlockRx, MissFault};
 pub use heard::Heard;
-pub use way::Way;
+pub use way::{CodeFault, Way};

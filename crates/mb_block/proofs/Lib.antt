@@ -1,0 +1,5 @@
+pub mod RisingLemmas
+pub mod KeptLemmas
+pub mod SeenLemmas
+pub mod WayLemmas
+pub mod BlockLemmas
