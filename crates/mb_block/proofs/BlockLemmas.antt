@@ -1,7 +1,6 @@
 -- What calls do to a block in memory.
-use Rattle.std.proofs.Common.{◌≡◌, ℕ, ◌+◌, ◌-◌, ◌*◌, ◌<◌, ◌≤◌, ◌==◌, Bool, true, false, List, ◌++◌, length, take, drop, replicate, refl, sym, ◌∙◌, ap, ap₂, arith, lt-ltb, length-append}
+use Rattle.std.proofs.Common.{◌≡◌, ℕ, ◌+◌, ◌-◌, ◌*◌, ◌<◌, ◌≤◌, Bool, true, false, List, ◌++◌, length, take, drop, replicate, refl, sym, ◌∙◌, ap, ap₂, arith, lt-ltb, length-append}
 use Rattle.std.specs.List.{concat}
-use Rattle.std.proofs.lemmas.Grind.{common_steps}
 use Rattle.std.proofs.lemmas.List.{length-replicate}
 use Rattle.mb_bits.specs.BitRow.{bit_in, Flips}
 use Rattle.mb_block.specs.Way.{is_in_range}
@@ -10,7 +9,7 @@ use Rattle.mb_block.specs.Buffer.{seen, block_in, IsBuffer}
 use Rattle.mb_block.specs.declared.way.Way.{Way}
 use Rattle.mb_block.specs.declared.way.Way.TheVariants.{NoCode}
 use Rattle.mb_block.specs.declared.heard.Heard.TheVariants.{Kept, Determined}
-use Rattle.mb_block.proofs.KeptLemmas.{below-end, complete-count, length-with_pair}
+use Rattle.mb_block.proofs.KeptLemmas.{same_number, below-end, complete-count, length-with_pair}
 use Rattle.mb_block.proofs.SeenLemmas.{IsPut, seen-put, seen-determined, seen-block, joined-seen}
 
 -- the way of a block in memory
@@ -74,9 +73,6 @@ pub hear-put : (k t : ℕ) (bytes words new_bytes new_words piece : List ℕ) (k
     → seen k t new_bytes new_words ≡ hear w (seen k t bytes words) (record { esi = place; symbol = piece })
 hear-put k t bytes words new_bytes new_words piece kept place w way b p =
     rw (heard-kept k t bytes words place w way p.within p.clear) (seen-put k t bytes words new_bytes new_words piece place b.bytes_are p)
-
-same_number : (m n : ℕ) → (m == n) ≡ true → m ≡ n
-same_number m n is = grind (arith, common_steps)
 
 -- the source symbols of a block that is complete are its bytes
 pub solved : (k t : ℕ) (bytes words : List ℕ) (kept : ℕ) (w : Way) (b : Block) → IsBuffer k t bytes words kept → block_in k t bytes words ≡ b → w ≡ b.way

@@ -31,18 +31,23 @@ length-hear w kept pair is = rw is (length-with_pair pair kept)
 pub below-end : (e k : ℕ) → nat_lt e k ≡ true → e < k
 below-end e k is = grind (arith, common_steps)
 
-pairs-below : (k t : ℕ) (kept : List Pair) → AllByRecursion (IsPairOf (NoCode k) t) kept → AreBelow k (esis kept)
+pub pairs-below : (k t : ℕ) (kept : List Pair) → AllByRecursion (IsPairOf (NoCode k) t) kept → AreBelow k (esis kept)
 pairs-below k t [] are = tt
 pairs-below k t (pair ∷ kept) are = (below-end pair.esi k are.0.0, pairs-below k t kept are.1)
 
 -- a block is complete where as many pairs are kept as it has symbols
+pub complete-below : (k : ℕ) (kept : List Pair) → AreBelow k (esis kept) → AreRising 0 (esis kept) → is_complete (NoCode k) kept ≡ (length kept == k)
+unfolding is_block_determined is_determined
+complete-below k kept below rise =
+    let from : k ≡ 0 + k = omega arith in
+    rising-all k 0 (esis kept) rise (subst (λ (end : ℕ). AreBelow end (esis kept)) from below) ∙ ap (λ n. n == k) (length-map kept (λ pair. pair.esi))
+
 pub complete-count : (k t : ℕ) (kept : List Pair) → AllByRecursion (IsPairOf (NoCode k) t) kept → AreRising 0 (esis kept)
     → is_complete (NoCode k) kept ≡ (length kept == k)
-unfolding is_block_determined is_determined
-complete-count k t kept are rise =
-    let from : k ≡ 0 + k = omega arith in
-    let below : AreBelow (0 + k) (esis kept) = subst (λ (end : ℕ). AreBelow end (esis kept)) from (pairs-below k t kept are) in
-    rising-all k 0 (esis kept) rise below ∙ ap (λ n. n == k) (length-map kept (λ pair. pair.esi))
+complete-count k t kept are rise = complete-below k kept (pairs-below k t kept are) rise
+
+pub same_number : (m n : ℕ) → (m == n) ≡ true → m ≡ n
+same_number m n is = grind (arith, common_steps)
 
 -- ---- ways
 

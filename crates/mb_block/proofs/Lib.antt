@@ -3,3 +3,5 @@ pub mod KeptLemmas
 pub mod SeenLemmas
 pub mod WayLemmas
 pub mod BlockLemmas
+pub mod MissingLemmas
+pub mod LawLemmas

@@ -83,3 +83,23 @@ rising-all (suc n) least (e ∷ es) rise below =
     let same : least + suc n ≡ least + 1 + n = omega arith in
     let others : AreBelow (least + 1 + n) es = subst (λ (end : ℕ). AreBelow end es) same below.1 in
     all-first n least e es rise.1 below (first least e over) (rising-all n (least + 1) es (rising-from es (least + 1) (e + 1) rise.1 (omega arith)) others)
+
+range-first : (n least e : ℕ) (es : List ℕ) → AreRising (e + 1) es → AreBelow (least + suc n) (e ∷ es) → suc (length es) ≡ suc n → First least e
+    → es ≡ range_with_len (least + 1) n → e ∷ es ≡ range_with_len least (suc n)
+range-first n least e es rise below count (Here is) others = ap₂ (λ (x : ℕ) (xs : List ℕ). x ∷ xs) is others
+range-first n least e es rise below count (Later after) others =
+    let few : suc (length es) ≤ least + suc n - (least + 1) = rising-length (e ∷ es) (least + 1) (least + suc n) (after, rise) below in
+    absurd (omega arith)
+
+-- as many as a range has are that range
+pub rising-range : (n least : ℕ) (es : List ℕ) → AreRising least es → AreBelow (least + n) es → length es ≡ n → es ≡ range_with_len least n
+rising-range zero least [] rise below count = refl
+rising-range zero least (e ∷ es) rise below count = absurd cc
+rising-range (suc n) least [] rise below count = absurd cc
+rising-range (suc n) least (e ∷ es) rise below count =
+    let over : least ≤ e = rise.0 in
+    let same : least + suc n ≡ least + 1 + n = omega arith in
+    let others : AreBelow (least + 1 + n) es = subst (λ (end : ℕ). AreBelow end es) same below.1 in
+    let fewer : length es ≡ n = omega arith in
+    range-first n least e es rise.1 below count (first least e over)
+    (rising-range n (least + 1) es (rising-from es (least + 1) (e + 1) rise.1 (omega arith)) others fewer)

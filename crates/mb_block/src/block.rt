@@ -1,55 +1,17 @@
-ghost use Rattle.std.specs.Prelude.{◌≡◌, ℕ, ◌+◌, ◌*◌, ◌<◌, ◌≤◌, ◌++◌, length, take, drop, true};
+ghost use Rattle.std.specs.Prelude.{◌≡◌, ℕ, ◌+◌, ◌*◌, ◌<◌, ◌≤◌, ◌++◌, length, take, drop, filter, not, true, IfOk, IfErr, OnOk};
+ghost use Rattle.std.specs.List.{range_with_len};
+ghost use Rattle.mb_bits.specs.BitRow.{bit_in};
+ghost use Rattle.mb_block.specs.declared.fault.MissFault.TheVariants as fault;
 ghost use Rattle.mb_block.specs.Block.{filled};
 
+use crate::fault::MissFault;
 use crate::heard::Heard;
 use crate::way::Way;
 use mb_base::{Gate, Memory};
 use mb_bits::{flip_bit, has_bit, words_for};
-use std::alloc::{AllocError, AllocFailed, Global};
-use std::error::Error;
-use std::fmt;
+use std::alloc::Global;
 use std::marker::Model;
 use std::thread::Threads;
-
-/// Why it is not known which symbols to ask for.
-#[derive(Clone, Copy, Debug, PartialEq, Eq)]
-pub enum MissFault {
-    /// All source symbols, so many, do not determine the block with those that are kept.
-    Unusable(u16),
-    /// Want of memory.
-    Memory,
-}
-
-impl fmt::Display for MissFault {
-    fn fmt<W: fmt::Write>(&self, f: &mut fmt::Formatter<W>) -> fmt::Result {
-        match self {
-            MissFault::Unusable(k) => write!(f, "a block of {k} symbols is not determined by them"),
-            MissFault::Memory => f.write_str("out of memory"),
-        }
-    }
-}
-
-impl Error for MissFault {}
-
-impl From<AllocError> for MissFault {
-    ghost use Rattle.mb_block.specs.declared.block.MissFault.TheVariants as fault;
-
-    ghost from_gives = { λ _ f. f ≡ fault.Memory };
-
-    fn from(_error: AllocError) -> MissFault {
-        MissFault::Memory
-    }
-}
-
-impl<T: Drop> From<AllocFailed<T>> for MissFault {
-    ghost use Rattle.mb_block.specs.declared.block.MissFault.TheVariants as fault;
-
-    ghost from_gives = { λ _ f. f ≡ fault.Memory };
-
-    fn from(_error: AllocFailed<T>) -> MissFault {
-        MissFault::Memory
-    }
-}
 
 /// A block as far as it was heard. A contract sees it as a `Block`.
 #[derive(Drop)]
@@ -79,10 +41,9 @@ impl Model for BlockRx {
 }
 
 impl BlockRx {
-    ghost use Rattle.std.specs.Prelude.{IfOk};
     ghost use Rattle.std.specs.List.{concat};
     ghost use Rattle.mb_block.specs.Way.{size_of};
-    ghost use Rattle.mb_block.specs.Block.{IsWay, IsBlock, nothing_of, heard_as, hear, is_complete, sources, request, buffer_of};
+    ghost use Rattle.mb_block.specs.Block.{IsWay, IsBlock, nothing_of, heard_as, hear, is_complete, sources, request, is_usable, IsMissFault, buffer_of};
 
     /// A block of which nothing was heard, of symbols of `symbol` bytes. All memory that it needs is taken here:
     /// `Memory` where there is none.
@@ -164,6 +125,22 @@ impl BlockRx {
         Heard::Kept
     }
 
+    /// The ESIs of the source symbols to ask for, by rising ESI: each that is determined neither by the symbols that
+    /// are kept nor together with those before it in the list.
+    ///
+    /// # Errors
+    ///
+    /// [`MissFault::Unusable`] where the symbols that are kept do not determine the block together with all its source
+    /// symbols: never under Compact No-Code. [`MissFault::Memory`] where there is no room for the list.
+    pub fn missing(&self, alloc: Global, way: &Way) -> Result<Vec<u16>, MissFault>
+        requires { way.now ≡ self.now.way }
+        ensures missing { IfOk result (λ v. v.items ≡ request way.now self.now.kept) }
+        ensures usable { OnOk result (is_usable way.now self.now.kept ≡ true) }
+        ensures fault { IfErr result (IsMissFault way.now self.now.kept) }
+    {
+        clear_places(alloc, &self.heard, self.k)
+    }
+
     /// Writes the source symbols of a block that is complete. The gate and the workers are not used where the
     /// symbols need no solving.
     pub fn solve<R: Threads + Sync, G: Gate>(
@@ -185,6 +162,22 @@ impl BlockRx {
     }
 }
 
+/// The places that are not set, of so many.
+fn clear_places(alloc: Global, words: &[u64], count: u32) -> Result<Vec<u16>, MissFault>
+    requires few { count ≤ 65536 }
+    requires room { count ≤ 64 * length words.now }
+    ensures places { IfOk result (λ v. v.items ≡ filter (λ e. not (bit_in words.now e)) (range_with_len 0 count)) }
+    ensures memory { IfErr result (λ f. f ≡ fault.Memory) }
+{
+    let mut places = Vec::new(alloc);
+    for place in 0..count {
+        if !has_bit(words, place as usize) {
+            places.push(place as u16)?;
+        }
+    }
+    Ok(places)
+}
+
 /// Copies a symbol to its place, with zeros for the bytes that it lacks.
 fn put_symbol(symbols: &mut [u8], at: usize, symbol: usize, bytes: &[u8])
     requires place { at + symbol ≤ length symbols.old }
@@ -201,4 +194,12 @@ fn fill_symbol(symbol: &mut [u8], bytes: &[u8])
 {
     symbol[..bytes.len()].copy_from_slice(bytes);
     symbol[bytes.len()..].fill(0);
+}
+
+// Blocks are sent to workers and read by several at once, so it is checked here that they can be.
+fn is_shared<T: Send + Sync>(_value: &T) {}
+
+fn blocks_are_shared(block: &BlockRx, way: &Way) {
+    is_shared(block);
+    is_shared(way);
 }

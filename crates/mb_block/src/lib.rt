@@ -3,9 +3,13 @@
 #![tactic(auto)]
 
 mod block;
+mod fault;
 mod heard;
+mod laws;
 mod way;
 
-pub use block::{BlockRx, MissFault};
+pub use block::BlockRx;
+pub use fault::{CodeFault, MissFault};
 pub use heard::Heard;
-pub use way::{CodeFault, Way};
+pub use laws::blocks_are_as_sent;
+pub use way::Way;

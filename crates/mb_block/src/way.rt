@@ -1,8 +1,7 @@
 ghost use Rattle.mb_geom.specs.Description.{IsGood};
 
+use crate::fault::CodeFault;
 use mb_geom::{Desc, Scheme};
-use std::error::Error;
-use std::fmt;
 
 /// How the symbols of a block follow from each other.
 #[derive(Clone, Copy, Debug, PartialEq, Eq)]
@@ -11,29 +10,12 @@ pub enum Way {
     NoCode { k: u32 },
 }
 
-/// Why a block has no way.
-#[derive(Clone, Copy, Debug, PartialEq, Eq)]
-pub enum CodeFault {
-    /// There is no row of Raptor's tables for blocks of so many symbols.
-    NoRow(u32),
-}
-
-impl fmt::Display for CodeFault {
-    fn fmt<W: fmt::Write>(&self, f: &mut fmt::Formatter<W>) -> fmt::Result {
-        match self {
-            CodeFault::NoRow(k) => write!(f, "the tables have no row for blocks of {k} symbols"),
-        }
-    }
-}
-
-impl Error for CodeFault {}
-
 impl Way {
     ghost use Rattle.std.specs.Prelude.{◌≡◌, ℕ, ◌<◌, ok_or, IfOk};
     ghost use Rattle.mb_geom.specs.Description.{block_count, block_size};
     ghost use Rattle.mb_block.specs.Way.{way_of, size_of, is_in_range};
     ghost use Rattle.mb_block.specs.Block.{IsWay};
-    ghost use Rattle.mb_block.specs.declared.way.CodeFault.TheVariants.{NoRow};
+    ghost use Rattle.mb_block.specs.declared.fault.CodeFault.TheVariants.{NoRow};
 
     /// The way of a block of the file, by the block's number.
     ///
