@@ -89,6 +89,13 @@ impl BlockRx {
         self.kept
     }
 
+    /// How many source symbols more than the kept ones the block has.
+    pub fn missing_count(&self) -> u32
+        ensures { result + length self.now.kept ≡ size_of self.now.way }
+    {
+        self.k - self.kept
+    }
+
     /// Whether the symbols that are kept determine the block.
     pub fn is_complete(&self) -> bool
         ensures { result ≡ is_complete self.now.way self.now.kept }
@@ -138,7 +145,8 @@ impl BlockRx {
         ensures usable { OnOk result (is_usable way.now self.now.kept ≡ true) }
         ensures fault { IfErr result (IsMissFault way.now self.now.kept) }
     {
-        clear_places(alloc, &self.heard, self.k)
+        let most = self.missing_count();
+        clear_places(alloc, &self.heard, self.k, most as usize)
     }
 
     /// Writes the source symbols of a block that is complete. The gate and the workers are not used where the
@@ -162,14 +170,19 @@ impl BlockRx {
     }
 }
 
-/// The places that are not set, of so many.
-fn clear_places(alloc: Global, words: &[u64], count: u32) -> Result<Vec<u16>, MissFault>
+/// The places that are not set, of so many, with room for so many of them taken first.
+fn clear_places(
+    alloc: Global,
+    words: &[u64],
+    count: u32,
+    most: usize,
+) -> Result<Vec<u16>, MissFault>
     requires few { count ≤ 65536 }
     requires room { count ≤ 64 * length words.now }
     ensures places { IfOk result (λ v. v.items ≡ filter (λ e. not (bit_in words.now e)) (range_with_len 0 count)) }
     ensures memory { IfErr result (λ f. f ≡ fault.Memory) }
 {
-    let mut places = Vec::new(alloc);
+    let mut places = Vec::with_capacity(alloc, most)?;
     for place in 0..count {
         if !has_bit(words, place as usize) {
             places.push(place as u16)?;

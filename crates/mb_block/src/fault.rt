@@ -1,5 +1,6 @@
 ghost use Rattle.std.specs.Prelude.{◌≡◌};
 
+use mb_base::Memory;
 use std::alloc::{AllocError, AllocFailed};
 use std::error::Error;
 use std::fmt;
@@ -58,6 +59,16 @@ impl<T: Drop> From<AllocFailed<T>> for MissFault {
     ghost from_gives = { λ _ f. f ≡ fault.Memory };
 
     fn from(_error: AllocFailed<T>) -> MissFault {
+        MissFault::Memory
+    }
+}
+
+impl From<Memory> for MissFault {
+    ghost use Rattle.mb_block.specs.declared.fault.MissFault.TheVariants as fault;
+
+    ghost from_gives = { λ _ f. f ≡ fault.Memory };
+
+    fn from(_fault: Memory) -> MissFault {
         MissFault::Memory
     }
 }

@@ -3,6 +3,8 @@
 #![tactic(auto)]
 
 mod block;
+#[cfg(test)]
+mod block_tests;
 mod fault;
 mod heard;
 mod laws;
