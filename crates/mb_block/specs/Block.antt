@@ -1,10 +1,12 @@
 -- A block as far as it was heard: the symbols that are kept of it, and what they determine.
-use Rattle.std.specs.Prelude.{ℕ, ◌+◌, ◌-◌, ◌*◌, ◌<◌, ◌≤◌, ◌^◌, Bool, not, nat_lt, if◌then◌else◌, List, [], ◌∷◌, ◌++◌, length, map, fold, replicate}
-use Rattle.std.specs.List.{range_with_len}
+use Rattle.std.specs.Prelude.{◌≡◌, ℕ, ◌+◌, ◌-◌, ◌*◌, ◌<◌, ◌≤◌, Bool, true, false, not, nat_lt, if◌then◌else◌, List, [], ◌∷◌, ◌++◌, length, map, fold, replicate}
+use Rattle.std.specs.List.{range_with_len, AllByRecursion}
 use Rattle.mb_geom.specs.Partition.{ceiling}
 use Rattle.mb_block.specs.Way.{size_of, is_in_range, is_determined, is_block_determined}
 use Rattle.mb_block.specs.declared.way.Way.{Way}
 use Rattle.mb_block.specs.declared.way.Way.TheVariants as way
+use Rattle.mb_block.specs.declared.fault.MissFault.{MissFault}
+use Rattle.mb_block.specs.declared.fault.MissFault.TheVariants.{Unusable, Memory}
 use Rattle.mb_block.specs.declared.heard.Heard.{Heard}
 use Rattle.mb_block.specs.declared.heard.Heard.TheVariants.{Kept, Determined, OutOfRange}
 
@@ -56,6 +58,15 @@ chosen_with w kept chosen esi = if is_determined w (kept ++ chosen) esi then cho
 abbrev pub request : Way → List Pair → List ℕ
 request w kept = fold (chosen_with w (esis kept)) [] (range_with_len 0 (size_of w))
 
+-- whether all source symbols determine the block with those that are kept
+abbrev pub is_usable : Way → List Pair → Bool
+is_usable w kept = is_block_determined w (esis kept ++ range_with_len 0 (size_of w))
+
+-- why it isn't known which symbols to ask for
+abbrev pub IsMissFault : Way → List Pair → MissFault → Type 0
+IsMissFault w kept (Unusable k) = (is_usable w kept ≡ false) × (k ≡ size_of w)
+IsMissFault w kept Memory = Unit {0}
+
 -- a block of symbols of so many bytes, and the pairs that are kept of it
 pub record Block : Type 0 where
   pub way : Way
@@ -73,3 +84,20 @@ buffer_of (way.NoCode k) t = k * t + 8 * ceiling k 64
 -- the number of symbols of a block of this way is within its limits
 abbrev pub IsWay : Way → Type 0
 IsWay (way.NoCode k) = (0 < k) × (k ≤ 65536)
+
+-- numbers that rise, from the least on
+abbrev pub AreRising : ℕ → List ℕ → Type 0
+AreRising least [] = Unit {0}
+AreRising least (n ∷ others) = (least ≤ n) × AreRising (n + 1) others
+
+-- the block has a symbol with this ESI, and the symbol has t bytes
+abbrev pub IsPairOf : Way → ℕ → Pair → Type 0
+IsPairOf w t pair = (is_in_range w pair.esi ≡ true) × (length pair.symbol ≡ t)
+
+-- what holds of a block, whatever was heard of it
+pub record IsBlock (b : Block) : Type 0 where
+  pub way : IsWay b.way
+  pub some : 0 < b.symbol
+  pub few : length b.kept ≤ size_of b.way
+  pub pairs : AllByRecursion (IsPairOf b.way b.symbol) b.kept
+  pub rising : AreRising 0 (esis b.kept)

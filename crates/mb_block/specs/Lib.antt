@@ -1,2 +1,4 @@
 pub mod Way
 pub mod Block
+pub mod Buffer
+pub mod Laws

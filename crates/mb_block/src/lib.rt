@@ -2,8 +2,16 @@
 //! symbols (RFC 3926 section 5.1, RFC 5053).
 #![tactic(auto)]
 
+mod block;
+#[cfg(test)]
+mod block_tests;
+mod fault;
 mod heard;
+mod laws;
 mod way;
 
+pub use block::BlockRx;
+pub use fault::{CodeFault, MissFault};
 pub use heard::Heard;
+pub use laws::blocks_are_as_sent;
 pub use way::Way;

@@ -1,0 +1,218 @@
+ghost use Rattle.std.specs.Prelude.{◌≡◌, ℕ, ◌+◌, ◌*◌, ◌<◌, ◌≤◌, ◌++◌, length, take, drop, filter, not, true, IfOk, IfErr, OnOk};
+ghost use Rattle.std.specs.List.{range_with_len};
+ghost use Rattle.mb_bits.specs.BitRow.{bit_in};
+ghost use Rattle.mb_block.specs.declared.fault.MissFault.TheVariants as fault;
+ghost use Rattle.mb_block.specs.Block.{filled};
+
+use crate::fault::MissFault;
+use crate::heard::Heard;
+use crate::way::Way;
+use mb_base::{Gate, Memory};
+use mb_bits::{flip_bit, has_bit, words_for};
+use std::alloc::Global;
+use std::marker::Model;
+use std::thread::Threads;
+
+/// A block as far as it was heard. A contract sees it as a `Block`.
+#[derive(Drop)]
+pub struct BlockRx {
+    /// The number of source symbols.
+    k: u32,
+    /// The bytes of a symbol.
+    symbol: u16,
+    /// The bytes of the source symbols in order, where they were heard.
+    symbols: Vec<u8>,
+    /// A bit for each source symbol, set where it was heard.
+    heard: Vec<u64>,
+    /// How many were heard.
+    kept: u32,
+}
+
+impl Model for BlockRx {
+    ghost use Rattle.mb_block.specs.Block.{Block};
+
+    ghost Value = { Block };
+
+    ghost use Rattle.mb_block.specs.Buffer.{block_in, IsBuffer};
+
+    ghost view = { λ b. block_in b.k b.symbol b.symbols.items b.heard.items };
+
+    ghost invariant = { λ b. IsBuffer b.k b.symbol b.symbols.items b.heard.items b.kept };
+}
+
+impl BlockRx {
+    ghost use Rattle.std.specs.List.{concat};
+    ghost use Rattle.mb_block.specs.Way.{size_of};
+    ghost use Rattle.mb_block.specs.Block.{IsWay, IsBlock, nothing_of, heard_as, hear, is_complete, sources, request, is_usable, IsMissFault, buffer_of};
+
+    /// A block of which nothing was heard, of symbols of `symbol` bytes. All memory that it needs is taken here:
+    /// `Memory` where there is none.
+    pub fn start(alloc: Global, way: &Way, symbol: u16) -> Result<BlockRx, Memory>
+        requires way { IsWay way.now }
+        requires symbol { 0 < symbol }
+        ensures { IfOk result (λ b. b ≡ nothing_of way.now symbol) }
+    {
+        let k = way.size();
+        let symbols = vec![in alloc; 0; k as usize * usize::from(symbol)]?;
+        let heard = vec![in alloc; 0; words_for(k as usize)]?;
+        Ok(BlockRx {
+            k,
+            symbol,
+            symbols,
+            heard,
+            kept: 0,
+        })
+    }
+
+    /// The way of the block.
+    pub fn way(&self) -> Way
+        ensures exact { result ≡ self.now.way }
+        ensures within { IsWay result }
+    {
+        Way::NoCode { k: self.k }
+    }
+
+    /// The length of a symbol in bytes.
+    pub fn symbol(&self) -> u16
+        ensures exact { result ≡ self.now.symbol }
+        ensures some { 0 < result }
+    {
+        self.symbol
+    }
+
+    /// How many symbols are kept.
+    pub fn kept(&self) -> u32
+        ensures exact { result ≡ length self.now.kept }
+        ensures most { result ≤ size_of self.now.way }
+        ensures block { IsBlock self.now }
+    {
+        self.kept
+    }
+
+    /// How many source symbols more than the kept ones the block has.
+    pub fn missing_count(&self) -> u32
+        ensures { result + length self.now.kept ≡ size_of self.now.way }
+    {
+        self.k - self.kept
+    }
+
+    /// Whether the symbols that are kept determine the block.
+    pub fn is_complete(&self) -> bool
+        ensures { result ≡ is_complete self.now.way self.now.kept }
+    {
+        self.kept == self.k
+    }
+
+    /// The bytes of its memory.
+    pub fn buffered(&self) -> u64
+        ensures { result ≡ buffer_of self.now.way self.now.symbol }
+    {
+        u64::from(self.k) * u64::from(self.symbol) + 8 * words_for(self.k as usize) as u64
+    }
+
+    /// Hears a symbol, which may lack bytes at its end: they are zeros (RFC 3926 section 5.1.2). It takes no memory.
+    pub fn hear(&mut self, way: &Way, esi: u16, bytes: &[u8]) -> Heard
+        requires way { way.now ≡ self.old.way }
+        requires bytes { length bytes.now ≤ self.old.symbol }
+        ensures heard { result ≡ heard_as way.now self.old.kept esi }
+        ensures block { self.new ≡ record self.old { kept = hear way.now self.old.kept (record { esi = esi; symbol = filled self.old.symbol bytes.now }) } }
+    {
+        if !way.has(esi) {
+            return Heard::OutOfRange;
+        }
+        let place = usize::from(esi);
+        if has_bit(&self.heard, place) {
+            return Heard::Determined;
+        }
+        let symbol = usize::from(self.symbol);
+        let at = place * symbol;
+        put_symbol(&mut self.symbols, at, symbol, bytes);
+        flip_bit(&mut self.heard, place);
+        self.kept += 1;
+        Heard::Kept
+    }
+
+    /// The ESIs of the source symbols to ask for, by rising ESI: each that is determined neither by the symbols that
+    /// are kept nor together with those before it in the list.
+    ///
+    /// # Errors
+    ///
+    /// [`MissFault::Unusable`] where the symbols that are kept do not determine the block together with all its source
+    /// symbols: never under Compact No-Code. [`MissFault::Memory`] where there is no room for the list.
+    pub fn missing(&self, alloc: Global, way: &Way) -> Result<Vec<u16>, MissFault>
+        requires { way.now ≡ self.now.way }
+        ensures missing { IfOk result (λ v. v.items ≡ request way.now self.now.kept) }
+        ensures usable { OnOk result (is_usable way.now self.now.kept ≡ true) }
+        ensures fault { IfErr result (IsMissFault way.now self.now.kept) }
+    {
+        let most = self.missing_count();
+        clear_places(alloc, &self.heard, self.k, most as usize)
+    }
+
+    /// Writes the source symbols of a block that is complete. The gate and the workers are not used where the
+    /// symbols need no solving.
+    pub fn solve<R: Threads + Sync, G: Gate>(
+        &mut self,
+        rt: &R,
+        way: &Way,
+        workers: u32,
+        gate: &G,
+        out: &mut [u8],
+    )
+        requires way { way.now ≡ self.old.way }
+        requires complete { is_complete way.now self.old.kept ≡ true }
+        requires workers { (1 ≤ workers) × (workers ≤ 64) }
+        requires out { length out.old ≡ size_of way.now * self.old.symbol }
+        ensures sources { out.new ≡ concat (sources way.now self.old.kept) }
+        ensures block { self.new ≡ self.old }
+    {
+        out.copy_from_slice(&self.symbols);
+    }
+}
+
+/// The places that are not set, of so many, with room for so many of them taken first.
+fn clear_places(
+    alloc: Global,
+    words: &[u64],
+    count: u32,
+    most: usize,
+) -> Result<Vec<u16>, MissFault>
+    requires few { count ≤ 65536 }
+    requires room { count ≤ 64 * length words.now }
+    ensures places { IfOk result (λ v. v.items ≡ filter (λ e. not (bit_in words.now e)) (range_with_len 0 count)) }
+    ensures memory { IfErr result (λ f. f ≡ fault.Memory) }
+{
+    let mut places = Vec::with_capacity(alloc, most)?;
+    for place in 0..count {
+        if !has_bit(words, place as usize) {
+            places.push(place as u16)?;
+        }
+    }
+    Ok(places)
+}
+
+/// Copies a symbol to its place, with zeros for the bytes that it lacks.
+fn put_symbol(symbols: &mut [u8], at: usize, symbol: usize, bytes: &[u8])
+    requires place { at + symbol ≤ length symbols.old }
+    requires most { length bytes.now ≤ symbol }
+    ensures { symbols.new ≡ take at symbols.old ++ (filled symbol bytes.now ++ drop (at + symbol) symbols.old) }
+{
+    fill_symbol(&mut symbols[at..at + symbol], bytes);
+}
+
+/// Copies a symbol, with zeros for the bytes that it lacks.
+fn fill_symbol(symbol: &mut [u8], bytes: &[u8])
+    requires { length bytes.now ≤ length symbol.old }
+    ensures { symbol.new ≡ filled (length symbol.old) bytes.now }
+{
+    symbol[..bytes.len()].copy_from_slice(bytes);
+    symbol[bytes.len()..].fill(0);
+}
+
+// Blocks are sent to workers and read by several at once, so it is checked here that they can be.
+fn is_shared<T: Send + Sync>(_value: &T) {}
+
+fn blocks_are_shared(block: &BlockRx, way: &Way) {
+    is_shared(block);
+    is_shared(way);
+}
