@@ -5,10 +5,10 @@ use Rattle.std.proofs.lemmas.Grind.{common_steps}
 use Rattle.std.proofs.lemmas.Bool.Decides.{leb_tells, nat_tests}
 use Rattle.std.proofs.lemmas.List.Edits.{length-insert, get_or-insert_below, get_or-insert_at, get_or-insert_above}
 use Rattle.mb_index.specs.Order.{IsOrder, IsRank, HasRank, toi_at}
-use Rattle.mb_index.proofs.PositionLemmas.{IsNowhere, position_first, nowhere}
+use Rattle.mb_index.proofs.PositionLemmas.{IsNowhere, position_first}
 
 -- places of the same TOI are the same
-pub same_place : (tois sorted : List ℕ) → IsOrder tois sorted → (place rank : ℕ) → place < length tois → rank < length sorted → slice_index tois place ≡ toi_at tois sorted rank → place ≡ slice_index sorted rank
+same_place : (tois sorted : List ℕ) → IsOrder tois sorted → (place rank : ℕ) → place < length tois → rank < length sorted → slice_index tois place ≡ toi_at tois sorted rank → place ≡ slice_index sorted rank
 same_place tois sorted is place rank within below same =
     let has : HasRank sorted place = is.covers place within in
     grind (arith, is.rises has.rank rank, is.rises rank has.rank, has.stands, has.within)
@@ -26,7 +26,7 @@ absent tois sorted toi rank is ranked above = record {
 }
 
 -- the places by rank after one was put at a rank
-pub record IsPut (old new : List ℕ) (rank place : ℕ) : Type 0 where
+record IsPut (old new : List ℕ) (rank place : ℕ) : Type 0 where
   pub len : length new ≡ length old + 1
   pub below : (k : ℕ) → k < rank → slice_index new k ≡ slice_index old k
   pub here : (k : ℕ) → k ≡ rank → slice_index new k ≡ place
