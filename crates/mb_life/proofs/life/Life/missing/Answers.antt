@@ -1,0 +1,14 @@
+use Rattle.std.proofs.Common.{List, Option, take, length, map, ap, ◌∙◌}
+use Rattle.mb_block.specs.Block.{Block}
+use Rattle.mb_life.specs.Life.{ways, missing_in, missing}
+use Rattle.mb_life.specs.LifeView.{kept_of}
+use Rattle.mb_life.proofs.BlocksLemmas.{missing-is}
+use Rattle.mb_life.proofs.life.Life.missing.Goals as goal
+
+pub returns : goal.returns
+returns c =
+    let inside = c.self.inside in
+    c.missing_among.ensures
+    ∙ ap (λ (bs : List (Option Block)). missing_in (take (length bs) (ways inside.desc)) (map kept_of bs)) c.deref.ensures.value
+    ∙ missing-is inside.desc inside.blocks.items inside.open_blocks inside.done c.self.invariant
+    ∙ ap missing c.self.view_is

@@ -1,0 +1,4 @@
+pub mod Life
+pub mod Hearing
+pub mod LifeView
+pub mod Taking

@@ -1,0 +1,11 @@
+pub mod EachLemmas
+pub mod HandOutLemmas
+pub mod OnceLemmas
+pub mod PacketLemmas
+pub mod EntryLemmas
+pub mod PastLemmas
+pub mod SlotLemmas
+pub mod DescribedLemmas
+pub mod KeptLemmas
+pub mod LifeLemmas
+pub mod HonestLemmas
