@@ -19,7 +19,7 @@ not_not : (b : Bool) → not b ≡ false → b ≡ true
 not_not true fails = refl
 not_not false fails = absurd cc
 
-size-allowed : (d : Description) (sbn : ℕ) → IsGood d → sbn < block_count d → is_block_size d.scheme (block_size d sbn) ≡ true
+pub size-allowed : (d : Description) (sbn : ℕ) → IsGood d → sbn < block_count d → is_block_size d.scheme (block_size d sbn) ≡ true
 size-allowed d sbn good within =
     let t : ℕ → Bool = λ k. not (is_block_size d.scheme k) in
     not_not _ (none_from t 0 sbn (block_sizes d) (sym (position_from-zero t (block_sizes d)) ∙ good.sizes) within)

@@ -1,10 +1,10 @@
 -- The blocks of a life by their numbers: their ways, what is kept of them, and their source symbols.
-use Rattle.std.proofs.Common.{◌≡◌, ℕ, zero, suc, ◌+◌, ◌-◌, ◌*◌, ◌<◌, ◌≤◌, ◌^◌, ◌==◌, ◌&&◌, not, sum_by, inl, inr, Bool, true, false, cond, nat_le, List, [], ◌∷◌, ◌++◌, length, get_or, set, take, drop, map, replicate, sum, Option, Some, None, is_some, refl, sym, ◌∙◌, ap, ap₂, subst, arith, add-one}
+use Rattle.std.proofs.Common.{◌≡◌, ℕ, zero, suc, ◌+◌, ◌-◌, ◌*◌, ◌<◌, ◌≤◌, ◌^◌, ◌==◌, ◌&&◌, not, sum_by, inl, inr, Bool, true, false, cond, nat_le, List, [], ◌∷◌, ◌++◌, length, get_or, set, take, drop, map, replicate, sum, Option, Some, None, is_some, refl, sym, ◌∙◌, ap, ap₂, subst, arith}
 use Rattle.std.specs.List.{AllByRecursion, list_all, concat, fold}
 use Rattle.std.proofs.lemmas.Grind.{common_steps}
 use Rattle.std.proofs.Math.Nat.{mul-le-mul_right}
 use Rattle.std.proofs.lemmas.Bool.{and_parts, both_ways, false≢true, leb-true, ne_eqb, cond_both, cases_eq}
-use Rattle.std.proofs.lemmas.List.{length-map, length-set, length-replicate, map-set, get_or-map, get_or-set_same, get_or-set_other, get_or_default, map-append, append-nil, append_assoc, take_at, take_all, length-append}
+use Rattle.std.proofs.lemmas.List.{length-map, length-set, length-replicate, map-set, get_or-map, get_or-set_same, get_or-set_other, get_or_default, map-append, append-nil, append_assoc, take_at, take_all}
 use Rattle.std.proofs.lemmas.List.Folds.{concat-append}
 use Rattle.mb_geom.specs.Description.{Description, IsGood, block_count, block_size, block_sizes, is_block_size, symbols, plain, equations, equations_of}
 use Rattle.mb_geom.specs.SourceSymbol.{sub_sizes, sub_sizes_of, symbols_before, joined_block, joined_file}

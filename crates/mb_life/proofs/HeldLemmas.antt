@@ -1,22 +1,22 @@
 -- A life that was not handed out, by its fields.
-use Rattle.std.proofs.Common.{◌≡◌, ℕ, ◌+◌, ◌-◌, ◌*◌, ◌<◌, ◌≤◌, ◌&&◌, not, Bool, true, false, cond, Option, Some, None, List, [], ◌∷◌, take, map, length, get_or, set, replicate, refl, subst, sym, ap, ap₂, ◌∙◌, arith}
+use Rattle.std.proofs.Common.{◌≡◌, ℕ, ◌<◌, ◌≤◌, ◌&&◌, not, Bool, true, false, cond, Option, None, List, [], take, map, length, get_or, set, replicate, refl, subst, sym, ap, ap₂, ◌∙◌, arith}
 use Rattle.std.proofs.lemmas.Bool.{and_parts, both_ways, not-true}
-use Rattle.std.proofs.lemmas.List.{map-set, get_or_default, get_or-set_same, length-map}
+use Rattle.std.proofs.lemmas.List.{map-set, get_or_default, get_or-set_same}
 use Rattle.md5.specs.Md5.{md5}
 use Rattle.std.specs.List.{concat}
 use Rattle.mb_geom.specs.Partition.{ceiling}
 use Rattle.mb_geom.specs.SourceSymbol.{sub_sizes, joined_block, joined_file}
-use Rattle.mb_geom.specs.Description.{Description, IsGood, block_count, block_sizes}
+use Rattle.mb_geom.specs.Description.{Description, block_count, block_sizes}
 use Rattle.mb_block.specs.declared.way.Way.{Way}
 use Rattle.mb_block.specs.declared.way.Way.TheVariants.{NoCode}
-use Rattle.mb_block.specs.Block.{Block, Pair, IsWay, is_complete}
+use Rattle.mb_block.specs.Block.{Block, Pair, is_complete}
 use Rattle.mb_life.specs.Life.{Life, way_in, ways, blocks_of, pairs_from, hear_pairs, is_ready, is_wrongly_empty, are_complete, has_digest, is_damaged, bytes_of, nothing_kept, hand_out}
-use Rattle.mb_life.specs.LifeView.{kept_of, kept_seen, IsBlockOf, ArePartly, AreBlocks, IsHeld}
+use Rattle.mb_life.specs.LifeView.{kept_of, kept_seen, ArePartly, AreBlocks, IsHeld}
 use Rattle.mb_life.specs.Taking.{IsTaken, IsJudged}
 use Rattle.mb_life.specs.declared.taken.Taken.{Taken}
 use Rattle.mb_life.specs.declared.taken.Taken.TheVariants.{File, Damaged}
 use Rattle.mb_life.proofs.OpenLemmas.{open_of, none-complete}
-use Rattle.mb_life.proofs.BlocksLemmas.{length-ways, ways-at, kept-at, length-kept, open-most, open-least, is_way, kept-none, bytes-is}
+use Rattle.mb_life.proofs.BlocksLemmas.{length-ways, ways-at, kept-at, length-kept, open-most, open-least, kept-none, bytes-is}
 
 -- what stands in memory of a life that goes on
 pub record Goes (d : Description) (blocks : List (Option Block)) (open_blocks : ℕ) (done : Bool) : Type 0 where

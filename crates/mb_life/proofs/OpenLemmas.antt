@@ -1,12 +1,11 @@
 -- How many blocks of a life aren't complete, and how that count changes with a block.
-use Rattle.std.proofs.Common.{◌≡◌, ℕ, zero, suc, ◌+◌, ◌-◌, ◌*◌, ◌<◌, ◌≤◌, ◌==◌, ◌&&◌, Bool, true, false, not, cond, List, [], ◌∷◌, ◌++◌, length, get_or, set, map, replicate, Option, Some, None, refl, sym, ◌∙◌, ap, ap₂, arith}
-use Rattle.std.proofs.lemmas.Grind.{common_steps}
+use Rattle.std.proofs.Common.{◌≡◌, ℕ, zero, suc, ◌+◌, ◌<◌, Bool, true, false, cond, List, [], ◌∷◌, length, get_or, set, map, replicate, None, refl, sym, ap, arith}
 use Rattle.std.proofs.lemmas.Bool.{and_parts}
 use Rattle.mb_block.specs.declared.way.Way.{Way}
 use Rattle.mb_block.specs.declared.way.Way.TheVariants.{NoCode}
 use Rattle.mb_block.specs.Way.{is_determined, is_block_determined}
-use Rattle.mb_block.specs.Block.{Block, Pair, IsWay, is_complete}
-use Rattle.mb_life.specs.Life.{are_complete, blocks_of, missing_in}
+use Rattle.mb_block.specs.Block.{Pair, IsWay, is_complete}
+use Rattle.mb_life.specs.Life.{are_complete}
 use Rattle.mb_life.specs.LifeView.{open_in, kept_of}
 
 -- 1 for a block that isn't complete

@@ -2,7 +2,7 @@
 use Rattle.std.proofs.Common.{◌≡◌, ℕ, zero, suc, ◌+◌, ◌-◌, ◌<◌, ◌≤◌, min, List, [], ◌∷◌, length, take, drop, refl, sym, ◌∙◌, ap, ap₂, arith}
 use Rattle.std.proofs.lemmas.Grind.{common_steps}
 use Rattle.mb_block.specs.declared.way.Way.{Way}
-use Rattle.mb_block.specs.Block.{Block, Pair, filled, heard_as, hear, with_pair, keep_if}
+use Rattle.mb_block.specs.Block.{Block, Pair, filled, heard_as, hear, keep_if}
 use Rattle.mb_block.specs.declared.heard.Heard.{Heard}
 use Rattle.mb_block.specs.declared.heard.Heard.TheVariants.{Kept, Determined, OutOfRange}
 use Rattle.mb_block.proofs.KeptLemmas.{length-with_pair}

@@ -1,5 +1,5 @@
 -- The source symbols of all blocks, written one block after the other.
-use Rattle.std.proofs.Common.{◌≡◌, ℕ, ◌+◌, ◌*◌, ◌<◌, ◌≤◌, ◌++◌, Option, Some, None, IfSome, IsSome, true, List, [], ◌∷◌, take, drop, map, length, get_or, set, sum, suc, add-one, arith, refl, subst, sym, ap, ap₂, ◌∙◌}
+use Rattle.std.proofs.Common.{◌≡◌, ℕ, ◌+◌, ◌*◌, ◌<◌, ◌≤◌, ◌++◌, Option, Some, None, IfSome, IsSome, true, List, [], ◌∷◌, take, drop, map, length, get_or, set, sum, add-one, arith, refl, subst, sym, ap, ap₂, ◌∙◌}
 use Rattle.std.specs.List.{concat}
 use Rattle.std.proofs.lemmas.List.{take_all, set-get_or, get_or_default}
 use Rattle.mb_geom.specs.Description.{Description, IsGood, block_count, block_size, block_sizes, symbols, plain}

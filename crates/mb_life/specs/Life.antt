@@ -1,5 +1,5 @@
 -- The life of a file: one TOI under one description, what was heard of it, and the file that follows.
-use Rattle.std.specs.Prelude.{ℕ, zero, suc, max, ◌+◌, ◌-◌, ◌*◌, ◌==◌, ◌&&◌, Bool, true, false, not, bytes_eq, if◌then◌else◌, List, [], ◌∷◌, length, take, drop, map, fold, sum, slice_index_or, slice_set, Option, Some, None, is_some, unwrap_or}
+use Rattle.std.specs.Prelude.{ℕ, zero, suc, max, ◌+◌, ◌-◌, ◌==◌, ◌&&◌, Bool, true, false, not, bytes_eq, if◌then◌else◌, List, [], ◌∷◌, length, take, drop, map, fold, slice_index_or, slice_set, Option, Some, None, is_some, unwrap_or}
 use Rattle.std.specs.List.{list_all}
 use Rattle.md5.specs.Md5.{md5}
 use Rattle.mb_geom.specs.Description.{Description, block_sizes, block_size}

@@ -1,9 +1,9 @@
 -- How a life stands in memory: a block is there once a symbol of it was heard, and none once the file was handed out.
-use Rattle.std.specs.Prelude.{◌≡◌, ℕ, ◌+◌, ◌<◌, ◌≤◌, Bool, true, false, if◌then◌else◌, List, [], ◌∷◌, length, map, slice_index_or, Option, Some, None, Result, Ok, Err, ⊤}
+use Rattle.std.specs.Prelude.{◌≡◌, ℕ, ◌+◌, ◌<◌, Bool, true, false, if◌then◌else◌, List, [], ◌∷◌, length, map, slice_index_or, Option, Some, None, ⊤}
 use Rattle.mb_geom.specs.Description.{Description, IsGood, block_count}
 use Rattle.mb_block.specs.declared.way.Way.{Way}
 use Rattle.mb_block.specs.Block.{Block, Pair, is_complete}
-use Rattle.mb_life.specs.Life.{Life, has_ways, ways, way_in, nothing_kept}
+use Rattle.mb_life.specs.Life.{has_ways, ways, way_in, nothing_kept}
 
 -- what is kept of a block
 abbrev pub kept_of : Option Block → List Pair

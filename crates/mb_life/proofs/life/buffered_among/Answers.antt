@@ -1,4 +1,4 @@
-use Rattle.std.proofs.Common.{◌≡◌, ℕ, ◌+◌, ◌*◌, ◌<◌, ◌≤◌, ◌^◌, take, sum_by, suc, add-one, arith, subst, sym, ap, ◌∙◌}
+use Rattle.std.proofs.Common.{◌≡◌, ℕ, ◌+◌, ◌<◌, ◌≤◌, take, sum_by, add-one, arith, ap, ◌∙◌}
 use Rattle.mb_geom.specs.Description.{block_count, block_size, block_sizes}
 use Rattle.mb_block.specs.Block.{buffer_of}
 use Rattle.mb_block.specs.declared.way.Way.TheVariants.{NoCode}

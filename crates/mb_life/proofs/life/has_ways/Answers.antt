@@ -7,4 +7,4 @@ returns-in-NoCode c = sym (has-no_code c.args.desc.now c.in-NoCode.max_block (sy
 
 pub returns-in-Raptor : goal.returns-in-Raptor
 returns-in-Raptor c =
-    ap (λ (n : ℕ). n == 0) c.blocks.ensures ∙ has-raptor c.args.desc.now c.in-Raptor.z c.in-Raptor.n c.in-Raptor.al (sym c.scheme.ensures ∙ c.in-Raptor.is)
+    ap (λ (n : ℕ). n == 0) c.blocks-in-Raptor.ensures ∙ has-raptor c.args.desc.now c.in-Raptor.z c.in-Raptor.n c.in-Raptor.al (sym c.scheme.ensures ∙ c.in-Raptor.is)

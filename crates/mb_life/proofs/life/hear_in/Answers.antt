@@ -1,4 +1,4 @@
-use Rattle.std.proofs.Common.{◌≡◌, ℕ, ◌+◌, ◌-◌, ◌≤◌, List, length, arith, sym, ap, ◌∙◌}
+use Rattle.std.proofs.Common.{◌≡◌, ℕ, ◌-◌, List, length, arith, sym, ap, ◌∙◌}
 use Rattle.mb_geom.specs.Partition.{ceiling}
 use Rattle.mb_geom.proofs.PartitionLemmas.{ceiling-from}
 use Rattle.mb_block.specs.Block.{Block, Pair}

@@ -1,5 +1,5 @@
-use Rattle.std.proofs.Common.{◌≡◌, ℕ, ◌+◌, ◌-◌, ◌*◌, ◌<◌, ◌≤◌, List, [], take, map, length, get_or, suc, add-one, arith, sym, ap, ◌∙◌}
-use Rattle.mb_geom.specs.Description.{block_count, block_size}
+use Rattle.std.proofs.Common.{◌≡◌, ℕ, ◌+◌, ◌-◌, ◌<◌, List, [], take, map, length, get_or, add-one, arith, sym, ap, ◌∙◌}
+use Rattle.mb_geom.specs.Description.{block_count}
 use Rattle.mb_block.specs.Block.{Pair}
 use Rattle.mb_block.specs.Way.{size_of}
 use Rattle.mb_block.specs.declared.way.Way.TheVariants.{NoCode}

@@ -1,7 +1,5 @@
-use Rattle.std.proofs.Common.{◌≡◌, ℕ, ◌+◌, ◌*◌, ◌<◌, ◌≤◌, Option, Some, None, List, take, length, get_or, set, arith, refl, sym, ap, ◌∙◌}
-use Rattle.std.proofs.lemmas.List.{set-get_or, get_or_default}
+use Rattle.std.proofs.Common.{◌<◌, ◌≤◌, length, arith, refl, sym, ◌∙◌}
 use Rattle.mb_geom.specs.Description.{block_count}
-use Rattle.mb_block.specs.Block.{Block}
 use Rattle.mb_life.specs.Life.{way_in}
 use Rattle.mb_life.proofs.SolveLemmas.{here, some-here, complete-here, within-here, written-here, reach-here, end-here, first-none, same-slot, there-at, bytes-more, bytes-all}
 use Rattle.mb_life.proofs.life.solve_all.Goals as goal

@@ -1,4 +1,4 @@
-use Rattle.std.proofs.Common.{◌≤◌, ◌+◌, List, Option, take, length, map, sum_by, if◌then◌else◌, arith, subst, ap, ◌∙◌}
+use Rattle.std.proofs.Common.{◌≤◌, ◌+◌, List, Option, take, length, sum_by, if◌then◌else◌, arith, subst}
 use Rattle.mb_geom.specs.Description.{block_sizes, plain, equations}
 use Rattle.mb_block.specs.Block.{Block, buffer_of}
 use Rattle.mb_block.specs.declared.way.Way.TheVariants.{NoCode}

@@ -1,7 +1,7 @@
-use Rattle.std.proofs.Common.{◌≡◌, ℕ, ◌+◌, ◌-◌, ◌<◌, ◌≤◌, Bool, false, List, Option, length, get_or, set, arith, refl, subst, sym, ap, ap₂, ◌∙◌}
+use Rattle.std.proofs.Common.{◌≡◌, ℕ, ◌-◌, ◌<◌, Bool, false, List, length, set, arith, subst, sym, ap, ap₂, ◌∙◌}
 use Rattle.mb_geom.specs.Description.{Description, block_count}
 use Rattle.mb_block.specs.declared.way.Way.{Way}
-use Rattle.mb_block.specs.Block.{Block, Pair, is_complete}
+use Rattle.mb_block.specs.Block.{Pair}
 use Rattle.mb_life.specs.Life.{Life, way_in, kept_in}
 use Rattle.mb_life.specs.LifeView.{kept_of, kept_seen, IsBlockOf, IsHeld}
 use Rattle.mb_life.specs.Hearing.{hear_payload}

@@ -1,5 +1,5 @@
-use Rattle.std.proofs.Common.{◌≡◌, ℕ, List, Option, false, map, length, subst, sym, ap, ◌∙◌}
-use Rattle.mb_geom.specs.Description.{block_count, block_sizes}
+use Rattle.std.proofs.Common.{◌≡◌, List, Option, false, length, subst, sym, ap, ◌∙◌}
+use Rattle.mb_geom.specs.Description.{block_count}
 use Rattle.mb_block.specs.Block.{Block, Pair}
 use Rattle.mb_life.specs.Life.{Life, nothing_kept}
 use Rattle.mb_life.specs.LifeView.{kept_seen, IsHeld}

@@ -1,6 +1,6 @@
-use Rattle.std.proofs.Common.{◌≡◌, ℕ, List, Option, subst, sym, ap, ◌∙◌}
+use Rattle.std.proofs.Common.{ℕ, List, Option, subst, ap, ◌∙◌}
 use Rattle.mb_life.specs.Life.{Life}
-use Rattle.mb_life.specs.Taking.{IsTaken, IsJudged}
+use Rattle.mb_life.specs.Taking.{IsJudged}
 use Rattle.mb_life.proofs.HeldLemmas.{taken-of, damaged-left, file-left, ready-undone}
 use Rattle.mb_life.proofs.life.Life.settle.Goals as goal
 

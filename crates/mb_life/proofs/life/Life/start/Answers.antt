@@ -1,4 +1,4 @@
-use Rattle.std.proofs.Common.{List, Option, false, map, sym, ap, subst, ◌∙◌}
+use Rattle.std.proofs.Common.{List, Option, false, map, ap, subst, ◌∙◌}
 use Rattle.mb_geom.specs.Description.{IsGood, block_sizes}
 use Rattle.mb_block.specs.Block.{Block, Pair}
 use Rattle.mb_life.specs.Life.{Life}

@@ -1,7 +1,7 @@
-use Rattle.std.proofs.Common.{◌≡◌, ◌++◌, List, Option, length, take, drop, false, true, subst, sym, ap, ◌∙◌}
+use Rattle.std.proofs.Common.{◌≡◌, ◌++◌, List, Option, length, take, drop, true, subst, sym, ap, ◌∙◌}
 use Rattle.std.proofs.lemmas.List.{take_at}
 use Rattle.mb_block.specs.Block.{Block}
-use Rattle.mb_life.specs.Life.{Life, is_ready}
+use Rattle.mb_life.specs.Life.{is_ready}
 use Rattle.mb_life.specs.LifeView.{kept_seen, AreBlocks}
 use Rattle.mb_life.proofs.HeldLemmas.{ready-parts, bytes-ready}
 use Rattle.mb_life.proofs.life.Life.take.Goals as goal
