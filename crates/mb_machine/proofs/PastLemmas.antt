@@ -2,7 +2,7 @@
 use Rattle.std.proofs.Common.{ℕ, ◌≤◌, max, not, nat_lt, List, [], ◌∷◌, Option, Result, Ok, Err, arith}
 use Rattle.std.specs.List.{AllByRecursion}
 use Rattle.std.proofs.lemmas.Bool.{cond_both, not-true, ltb-false}
-use Rattle.mb_alc.specs.Packet.{Body}
+use Rattle.mb_alc.specs.Packet.{Packet, Body}
 use Rattle.mb_alc.specs.declared.packet.Fti.{Fti}
 use Rattle.mb_block.specs.Block.{Pair}
 use Rattle.mb_fdt_text.specs.declared.fdt.Fdt.{Fdt}
@@ -10,8 +10,8 @@ use Rattle.mb_fdt_text.specs.declared.fdt.FdtFault.{FdtFault}
 use Rattle.mb_fdt.specs.Reader.{fdt_of}
 use Rattle.mb_life.specs.Life.{Life, hear_in_block}
 use Rattle.mb_machine.specs.Table.{Table, is_past, tick_to, tick}
-use Rattle.mb_machine.specs.Packets.{Stepped, read_instance, hear_in_window, pairs_of, hear_symbols}
-use Rattle.mb_machine.specs.Laws.{NoLifeIsPast}
+use Rattle.mb_machine.specs.Packets.{Stepped, packet, read_instance, hear_in_window, pairs_of, hear_symbols}
+use Rattle.mb_machine.specs.Laws.{NoneIsPast, NoLifeIsPast}
 use Rattle.mb_machine.proofs.EachLemmas.{all-filter, all-change_life}
 use Rattle.mb_machine.proofs.EntryLemmas.{of_entries}
 use Rattle.mb_machine.proofs.PacketLemmas.{of_packet, of_window}
@@ -56,11 +56,14 @@ window-current id fti body t all =
 symbols-current : (life : Life) (sbn : ℕ) (pairs : List Pair) (t : Table) → AreCurrent t → StaysCurrent (hear_symbols life sbn pairs t)
 symbols-current life sbn pairs t all = all-change_life (IsCurrent t.clock) life.toi (hear_in_block sbn pairs) t.lives (λ l _ now. now) all
 
-pub current : NoLifeIsPast
-current t at p =
+packet-current : (at : ℕ) (p : Packet) (t : Table) → NoneIsPast (packet at p t).table
+packet-current at p t =
     let now : AreCurrent (tick at t) = tick-current (max t.clock at) t in
     of_packet StaysCurrent p (tick at t) (record {
       dropped = λ _. now;
       instance = λ id body _ _ _ _. window-current id p.exts.fti body (tick at t) now;
       object = λ toi body life _ _ _ _ _ _. symbols-current life body.sbn (pairs_of life.desc body) (tick at t) now;
     })
+
+pub current : NoLifeIsPast
+current t at = (tick-current (max t.clock at) t, λ p. packet-current at p t)

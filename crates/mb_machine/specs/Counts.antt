@@ -1,5 +1,6 @@
 -- How many packets were dropped for each reason.
-use Rattle.std.specs.Prelude.{ℕ, ◌+◌, ◌-◌, ◌^◌, min, List, [], ◌∷◌, replicate, slice_index, slice_set}
+use Rattle.std.specs.Prelude.{ℕ, List, [], ◌∷◌, replicate, slice_index, slice_set}
+use Rattle.mb_machine.specs.Table.{raised_by}
 use Rattle.mb_machine.specs.declared.reason.Reason.{Reason}
 use Rattle.mb_machine.specs.declared.reason.Reason.TheVariants.{Closed, OtherSession, NoToi, NoBody, FdtWithoutIds, FdtEncoded, FdtShape, Unknown, FtiDiffers, CodePointDiffers, Block, Symbol, Length, Done}
 
@@ -32,9 +33,8 @@ no_drops = replicate 14 0
 abbrev pub drop_count : List ℕ → Reason → ℕ
 drop_count counts why = slice_index counts (number_of why)
 
--- a count that rises stands still at the last value of its 64 bits
 abbrev pub raised : ℕ → ℕ
-raised n = min (n + 1) (2 ^ 64 - 1)
+raised count = raised_by 1 count
 
 abbrev pub counted : Reason → List ℕ → List ℕ
 counted why counts = slice_set counts (number_of why) (raised (drop_count counts why))

@@ -52,9 +52,13 @@ ReadyOneByOne = (lives : List Life) (life : Life) → IsFirstReady lives life �
 abbrev pub NoneIsReady : Type 0
 NoneIsReady = (lives : List Life) → find is_ready lives ≡ None → (filter is_ready lives ≡ []) × (map handed_out lives ≡ lives)
 
--- No life stands once the clock has passed its expiry.
+-- no life of a table stands whose expiry its clock has passed
+abbrev pub NoneIsPast : Table → Type 0
+NoneIsPast t = AllByRecursion (λ life. t.clock ≤ life.expires) t.lives
+
+-- That holds once the clock has moved, and after each packet.
 abbrev pub NoLifeIsPast : Type 0
-NoLifeIsPast = (t : Table) (at : ℕ) (p : Packet) → AllByRecursion (λ life. (packet at p t).table.clock ≤ life.expires) (packet at p t).table.lives
+NoLifeIsPast = (t : Table) (at : ℕ) → NoneIsPast (tick at t) × ((p : Packet) → NoneIsPast (packet at p t).table)
 
 -- A life that was handed out isn't ready: its file is put once, and a damaged one waits for new symbols.
 abbrev pub HandedOutOnce : Type 0

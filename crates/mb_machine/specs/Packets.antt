@@ -1,7 +1,6 @@
 -- What a packet does to the table of a session.
-use Rattle.std.specs.Prelude.{ℕ, ◌+◌, ◌-◌, ◌%◌, ◌==◌, ◌||◌, ◌&&◌, Bool, true, false, not, max, nat_lt, nat_le, if◌then◌else◌, List, length, take, slice_index, Option, Some, None, is_none, Result, Ok, Err}
+use Rattle.std.specs.Prelude.{ℕ, ◌+◌, ◌-◌, ◌==◌, ◌||◌, ◌&&◌, Bool, true, false, not, max, nat_lt, nat_le, if◌then◌else◌, List, length, take, slice_index, Option, Some, None, is_none, Result, Ok, Err}
 use Rattle.mb_base.specs.Number.{be_number}
-use Rattle.mb_geom.specs.Partition.{ceiling}
 use Rattle.mb_geom.specs.Description.{Description, block_count, block_size, tail}
 use Rattle.mb_geom.specs.declared.desc.Scheme.{Scheme}
 use Rattle.mb_geom.specs.declared.desc.Scheme.TheVariants.{NoCode, Raptor}
@@ -10,6 +9,8 @@ use Rattle.mb_fdt_text.specs.declared.fdt.FdtFault.{FdtFault}
 use Rattle.mb_fdt.specs.Reader.{fdt_of}
 use Rattle.mb_alc.specs.Packet.{Packet, Body}
 use Rattle.mb_alc.specs.declared.packet.Fti.{Fti}
+use Rattle.mb_window.specs.Symbols.{symbol_count}
+use Rattle.mb_window.specs.Assembled.{short_bytes}
 use Rattle.mb_window.specs.Window as window
 use Rattle.mb_window.specs.declared.heard.WindowHeard.{WindowHeard}
 use Rattle.mb_window.specs.declared.heard.WindowHeard.TheVariants as fdt
@@ -94,17 +95,9 @@ abbrev pub esi_end : Scheme → ℕ → ℕ
 esi_end (NoCode b) k = k
 esi_end (Raptor z n al) k = 65536
 
--- how many symbols a payload holds
-abbrev pub symbol_count : Description → Body → ℕ
-symbol_count d body = ceiling (length body.payload) d.symbol
-
 -- the packet's last symbol is past its block's last one; a packet without a symbol is looked at as one with one
 abbrev pub is_past_block : Description → Body → Bool
 is_past_block d body = nat_lt (esi_end d.scheme (block_size d body.sbn)) (body.esi + max (symbol_count d body) 1)
-
--- the bytes of the payload's last symbol, where that is short
-abbrev pub short_bytes : Description → Body → ℕ
-short_bytes d body = length body.payload % d.symbol
 
 -- a symbol without its last bytes can be told of a scheme with one sub-block
 abbrev pub may_be_short : Scheme → Bool

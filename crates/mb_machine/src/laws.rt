@@ -12,7 +12,8 @@ pub fn handed_out_once()
     ensures { HandedOutOnce }
 {}
 
-/// The law of expiry: after each packet only lives stand whose expiry the clock hasn't passed. It does nothing.
+/// The law of expiry: once the clock has moved, and after each packet, only lives stand whose expiry the clock hasn't
+/// passed. It does nothing.
 pub fn no_life_is_past()
     ensures { NoLifeIsPast }
 {}
