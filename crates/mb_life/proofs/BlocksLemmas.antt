@@ -1,8 +1,8 @@
 -- The blocks of a life by their numbers: their ways, what is kept of them, and their source symbols.
-use Rattle.std.proofs.Common.{◌≡◌, ℕ, zero, suc, ◌+◌, ◌-◌, ◌*◌, ◌<◌, ◌≤◌, ◌^◌, ◌==◌, ◌&&◌, not, sum_by, inl, inr, Bool, true, false, cond, nat_le, List, [], ◌∷◌, ◌++◌, length, get_or, set, take, drop, map, replicate, sum, Option, Some, None, is_some, refl, sym, ◌∙◌, ap, ap₂, subst, arith}
+use Rattle.std.proofs.Common.{◌≡◌, ℕ, zero, suc, ◌+◌, ◌-◌, ◌*◌, ◌/◌, ◌<◌, ◌≤◌, ◌^◌, ◌==◌, ◌&&◌, not, sum_by, inl, inr, Bool, true, false, cond, nat_le, List, [], ◌∷◌, ◌++◌, length, get_or, set, take, drop, map, replicate, sum, Option, Some, None, is_some, refl, sym, ◌∙◌, ap, ap₂, subst, arith}
 use Rattle.std.specs.List.{AllByRecursion, list_all, concat, fold}
 use Rattle.std.proofs.lemmas.Grind.{common_steps}
-use Rattle.std.proofs.Math.Nat.{mul-le-mul_right}
+use Rattle.std.proofs.Math.Nat.{mul-le-mul_right, mul-div_cancel}
 use Rattle.std.proofs.lemmas.Bool.{and_parts, both_ways, false≢true, leb-true, ne_eqb, cond_both, cases_eq}
 use Rattle.std.proofs.lemmas.List.{length-map, length-set, length-replicate, map-set, get_or-map, get_or-set_same, get_or-set_other, get_or_default, map-append, append-nil, append_assoc, take_at, take_all}
 use Rattle.std.proofs.lemmas.List.Folds.{concat-append}
@@ -17,8 +17,8 @@ use Rattle.mb_block.specs.declared.way.Way.TheVariants.{NoCode}
 use Rattle.mb_block.specs.Way.{way_of, size_of}
 use Rattle.mb_block.specs.Block.{Block, Pair, IsWay, IsBlock, IsPairOf, is_complete, sources, buffer_of}
 use Rattle.mb_block.proofs.WayLemmas.{size-allowed}
-use Rattle.mb_life.specs.Life.{way_with, way_in, ways, has_ways, blocks_of, missing_in, is_wrongly_empty, are_complete}
-use Rattle.mb_life.specs.LifeView.{kept_of, kept_seen, IsBlockOf, ArePartly, AreBlocks, IsHeld, open_in}
+use Rattle.mb_life.specs.Life.{way_with, way_in, ways, nothing_kept, has_ways, blocks_of, missing_in, buffer_for, buffers_in, is_wrongly_empty, are_complete}
+use Rattle.mb_life.specs.LifeView.{kept_of, kept_seen, IsBlockOf, ArePartly, AreBlocks, Stands, open_in}
 use Rattle.mb_life.proofs.OpenLemmas.{open_of, open_of-zero, open-set, open-nothing, nothing-open}
 
 -- ---- ways
@@ -241,13 +241,32 @@ open-least (v ∷ ws) [] i w within same = absurd (omega arith)
 open-least (v ∷ ws) (k ∷ kept) zero w within same = omega arith
 open-least (v ∷ ws) (k ∷ kept) (suc i) w within same = omega (arith, open-least ws kept i w (omega arith) (omega arith))
 
-pub ready-is : (d : Description) (blocks : List (Option Block)) (open_blocks : ℕ) (done : Bool) → IsHeld d blocks open_blocks done
-    → (not done && (not (is_wrongly_empty d) && (open_blocks == 0))) ≡ (not done && (not (is_wrongly_empty d) && are_complete (ways d) (kept_seen done d blocks)))
-ready-is d blocks open_blocks true held = refl
-ready-is d blocks open_blocks false held =
-    let are = held.blocks_are refl in
+pub kept-none : (sizes : List ℕ) (n : ℕ) → n ≡ length sizes → map kept_of (replicate n None) ≡ map (λ k. []) sizes
+kept-none [] zero same = refl
+kept-none [] (suc n) same = absurd (omega arith)
+kept-none (k ∷ sizes) zero same = absurd (omega arith)
+kept-none (k ∷ sizes) (suc n) same = ap (λ (xs : List (List Pair)). [] ∷ xs) (kept-none sizes n (omega arith))
+
+-- where nothing was heard, each block is open
+pub open-all : (d : Description) → IsGood d → open_in (ways d) (nothing_kept d) ≡ block_count d
+open-all d good =
+    ap (open_in (ways d)) (sym (kept-none (block_sizes d) (block_count d) refl))
+    ∙ open-nothing (ways d) (block_count d) (sym (length-ways d)) (λ w sbn below. ap (λ v. is_complete v []) (ways-at d sbn w (omega (arith, below, length-ways d)))
+    ∙ nothing-open (way_in d sbn) (is_way d sbn good (omega (arith, below, length-ways d))))
+
+pub length-nothing : (d : Description) → length (nothing_kept d) ≡ length (ways d)
+length-nothing d = length-map (block_sizes d) (λ (k : ℕ). []) ∙ sym (length-ways d)
+
+pub ready-is : (d : Description) (blocks : List (Option Block)) (open_blocks : ℕ) (placed done : Bool) → Stands d blocks open_blocks placed done
+    → (not done && (not (is_wrongly_empty d) && (open_blocks == 0))) ≡ (not done && (not (is_wrongly_empty d) && are_complete (ways d) (kept_seen placed d blocks)))
+ready-is d blocks open_blocks placed true stands = refl
+ready-is d blocks open_blocks true false stands =
+    let are = stands.blocks_are refl in
     ap (λ b. not (is_wrongly_empty d) && b)
     (ap (λ (n : ℕ). n == 0) are.counted ∙ complete-zero (ways d) (map kept_of blocks) (length-kept blocks ∙ are.number ∙ sym (length-ways d)))
+ready-is d blocks open_blocks false false stands =
+    ap (λ b. not (is_wrongly_empty d) && b)
+    (ap (λ (n : ℕ). n == 0) (stands.unheard refl refl ∙ sym (open-all d stands.good)) ∙ complete-zero (ways d) (nothing_kept d) (length-nothing d))
 
 set-each : (d : Description) (blocks : List (Option Block)) (sbn : ℕ) (new : Option Block) (i : ℕ)
     → ((n : ℕ) → n < block_count d → IsBlockOf (way_in d n) d.symbol (get_or blocks n None)) → i < block_count d → sbn < length blocks
@@ -259,11 +278,10 @@ set-each d blocks sbn new i each within there of =
     ]
 
 -- a block of a life that was heard, and the count with it
-pub held-hear : (d : Description) (blocks : List (Option Block)) (sbn open_blocks more : ℕ) (new : Option Block) (was is : Bool) → IsHeld d blocks open_blocks false
+pub blocks-hear : (d : Description) (blocks : List (Option Block)) (sbn open_blocks more : ℕ) (new : Option Block) (was is : Bool) → AreBlocks d blocks open_blocks
     → sbn < block_count d → IsBlockOf (way_in d sbn) d.symbol new → was ≡ is_complete (way_in d sbn) (kept_of (get_or blocks sbn None))
-    → is ≡ is_complete (way_in d sbn) (kept_of new) → more + cond was 0 1 ≡ open_blocks + cond is 0 1 → IsHeld d (set blocks sbn new) more false
-held-hear d blocks sbn open_blocks more new was is held within of was_is is_is count =
-    let are = held.blocks_are refl in
+    → is ≡ is_complete (way_in d sbn) (kept_of new) → more + cond was 0 1 ≡ open_blocks + cond is 0 1 → AreBlocks d (set blocks sbn new) more
+blocks-hear d blocks sbn open_blocks more new was is are within of was_is is_is count =
     let there : sbn < length blocks = omega (arith, are.number) in
     let lengths : length (map kept_of blocks) ≡ length (ways d) = length-kept blocks ∙ are.number ∙ sym (length-ways d) in
     let below : sbn < length (ways d) = omega (arith, length-ways d) in
@@ -274,14 +292,9 @@ held-hear d blocks sbn open_blocks more new was is held within of was_is is_is c
     ap (λ w. open_of w (kept_of new)) (ways-at d sbn (NoCode 0) within) ∙ ap (λ (b : Bool). cond {A = ℕ} b 0 1) (sym is_is) in
     let kept_set : map kept_of (set blocks sbn new) ≡ set (map kept_of blocks) sbn (kept_of new) = map-set kept_of blocks sbn new in
     record {
-      good = held.good;
-      has_way = held.has_way;
-      blocks_are = λ e. record {
-        number = length-set blocks sbn new ∙ are.number;
-        each = λ i i_within. set-each d blocks sbn new i are.each i_within there of;
-        counted = omega (arith, are.counted, one, old_open, new_open, count, ap (open_in (ways d)) kept_set);
-      };
-      freed = λ e. absurd (false≢true e);
+      number = length-set blocks sbn new ∙ are.number;
+      each = λ i i_within. set-each d blocks sbn new i are.each i_within there of;
+      counted = omega (arith, are.counted, one, old_open, new_open, count, ap (open_in (ways d)) kept_set);
     }
 
 pub slot-kept : (blocks : List (Option Block)) (sbn : ℕ) (slot : Option Block) → sbn < length blocks → slot ≡ get_or blocks sbn slot
@@ -291,13 +304,25 @@ slot-kept blocks sbn slot within is =
 
 -- ---- what a life says of all its blocks
 
-pub missing-is : (d : Description) (blocks : List (Option Block)) (open_blocks : ℕ) (done : Bool) → IsHeld d blocks open_blocks done
-    → missing_in (take (length blocks) (ways d)) (map kept_of blocks) ≡ cond done 0 (missing_in (ways d) (kept_seen done d blocks))
-missing-is d blocks open_blocks true held =
-    ap (λ (bs : List (Option Block)). missing_in (take (length bs) (ways d)) (map kept_of bs)) (held.freed refl) ∙ missing-none []
-missing-is d blocks open_blocks false held =
-    let are = held.blocks_are refl in
-    ap (λ ws. missing_in ws (map kept_of blocks)) (take_all (length blocks) (ways d) (omega (arith, are.number, length-ways d)))
+pub missing-is : (d : Description) (blocks : List (Option Block)) (open_blocks : ℕ) (placed done : Bool) → Stands d blocks open_blocks placed done → placed ≡ true → done ≡ false
+    → missing_in (take (length blocks) (ways d)) (map kept_of blocks) ≡ cond done 0 (missing_in (ways d) (kept_seen placed d blocks))
+missing-is d blocks open_blocks placed done stands there undone =
+    let are = stands.blocks_are there in
+    rw (undone, there) (ap (λ ws. missing_in ws (map kept_of blocks)) (take_all (length blocks) (ways d) (omega (arith, are.number, length-ways d))))
+
+missing-sizes : (s : Scheme) (sizes : List ℕ) → missing_in (map (way_with s) sizes) (map (λ k. []) sizes) ≡ sum sizes
+unfolding missing_in
+missing-sizes s [] = refl
+missing-sizes s (k ∷ sizes) =
+    let size : size_of (way_with s k) ≡ k = ap size_of (way_with-is s k) in
+    omega (arith, size, missing-sizes s sizes, sum-cons k sizes)
+
+-- before the first symbol all of them are missing
+pub missing-all : (d : Description) (blocks : List (Option Block)) (bytes symbol : ℕ) (placed done : Bool) → IsGood d → bytes ≡ plain d → symbol ≡ d.symbol → placed ≡ false → done ≡ false
+    → bytes / symbol ≡ cond done 0 (missing_in (ways d) (kept_seen placed d blocks))
+missing-all d blocks bytes symbol placed done good bytes_are symbol_is bare undone =
+    let all : (symbols d * d.symbol) / d.symbol ≡ symbols d = mul-div_cancel (symbols d) good.symbol in
+    rw (undone, bare, bytes_are, symbol_is) (all ∙ sym (missing-sizes d.scheme (block_sizes d) ∙ sum-block_sizes d good))
 
 buffers-by : (t : ℕ) (s : Scheme) (sizes : List ℕ) → list_all (λ k. is_some (way_of s k)) sizes ≡ true
     → sum_by (λ k. buffer_of (NoCode k) t) sizes ≤ sum sizes * t + sum_by (equations_of s) sizes
@@ -316,41 +341,60 @@ buffers-most d good has =
     let all : sum (block_sizes d) * d.symbol ≡ symbols d * d.symbol = ap (λ (n : ℕ). n * d.symbol) (sum-block_sizes d good) in
     omega (arith, buffers-by d.symbol d.scheme (block_sizes d) has, all)
 
-pub buffered-is : (d : Description) (blocks : List (Option Block)) (open_blocks : ℕ) (done : Bool) → IsHeld d blocks open_blocks done
+pub buffered-is : (d : Description) (blocks : List (Option Block)) (open_blocks : ℕ) (placed done : Bool) → Stands d blocks open_blocks placed done
     → sum_by (λ k. buffer_of (NoCode k) d.symbol) (take (length blocks) (block_sizes d)) ≤ cond done 0 (plain d + equations d)
-buffered-is d blocks open_blocks true held =
-    subst (λ (bs : List (Option Block)). sum_by (λ k. buffer_of (NoCode k) d.symbol) (take (length bs) (block_sizes d)) ≤ 0) (sym (held.freed refl)) (omega arith)
-buffered-is d blocks open_blocks false held =
-    let are = held.blocks_are refl in
+buffered-is d blocks open_blocks placed true stands =
+    subst (λ (bs : List (Option Block)). sum_by (λ k. buffer_of (NoCode k) d.symbol) (take (length bs) (block_sizes d)) ≤ 0) (sym (stands.nothing (stands.freed refl))) (omega arith)
+buffered-is d blocks open_blocks false false stands =
+    subst (λ (bs : List (Option Block)). sum_by (λ k. buffer_of (NoCode k) d.symbol) (take (length bs) (block_sizes d)) ≤ plain d + equations d) (sym (stands.nothing refl)) (omega arith)
+buffered-is d blocks open_blocks true false stands =
+    let are = stands.blocks_are refl in
     let all : take (length blocks) (block_sizes d) ≡ block_sizes d = take_all (length blocks) (block_sizes d) (omega (arith, are.number)) in
-    subst (λ (sizes : List ℕ). sum_by (λ k. buffer_of (NoCode k) d.symbol) sizes ≤ plain d + equations d) (sym all) (buffers-most d held.good held.has_way)
+    subst (λ (sizes : List ℕ). sum_by (λ k. buffer_of (NoCode k) d.symbol) sizes ≤ plain d + equations d) (sym all) (buffers-most d stands.good stands.has_way)
+
+-- ---- the buffers of blocks of which something is kept
+
+pub buffers-more : (t : ℕ) (ws : List Way) (kept : List (List Pair)) (i : ℕ) (w : Way) → i < length ws → i < length kept
+    → buffers_in t (take (suc i) ws) (take (suc i) kept) ≡ buffers_in t (take i ws) (take i kept) + buffer_for t (get_or ws i w) (get_or kept i [])
+unfolding buffers_in
+buffers-more t [] kept i w within there = absurd (omega arith)
+buffers-more t (v ∷ ws) [] i w within there = absurd (omega arith)
+buffers-more t (v ∷ ws) (k ∷ kept) zero w within there = omega arith
+buffers-more t (v ∷ ws) (k ∷ kept) (suc i) w within there =
+    let others = buffers-more t ws kept i w (omega arith) (omega arith) in
+    omega (arith, others)
+
+pub buffers-none : (t : ℕ) (kept : List (List Pair)) → buffers_in t [] kept ≡ 0
+unfolding buffers_in
+buffers-none t kept = refl
+
+buffers-nothing : (t : ℕ) (ws : List Way) (sizes : List ℕ) → buffers_in t ws (map (λ k. []) sizes) ≡ 0
+unfolding buffers_in
+buffers-nothing t [] sizes = refl
+buffers-nothing t (w ∷ ws) [] = refl
+buffers-nothing t (w ∷ ws) (k ∷ sizes) = omega (arith, buffers-nothing t ws sizes)
+
+pub buffers-are : (d : Description) (blocks : List (Option Block)) (open_blocks : ℕ) (placed done : Bool) → Stands d blocks open_blocks placed done
+    → buffers_in d.symbol (ways d) (kept_seen placed d blocks) ≤ buffers_in d.symbol (take (length blocks) (ways d)) (map kept_of blocks)
+buffers-are d blocks open_blocks false done stands = omega (arith, buffers-nothing d.symbol (ways d) (block_sizes d))
+buffers-are d blocks open_blocks true done stands =
+    let are = stands.blocks_are refl in
+    let all : buffers_in d.symbol (take (length blocks) (ways d)) (map kept_of blocks) ≡ buffers_in d.symbol (ways d) (map kept_of blocks) =
+    ap (λ ws. buffers_in d.symbol ws (map kept_of blocks)) (take_all (length blocks) (ways d) (omega (arith, are.number, length-ways d))) in
+    omega (arith, all)
 
 -- ---- a life of which nothing was heard
-
-pub kept-none : (sizes : List ℕ) (n : ℕ) → n ≡ length sizes → map kept_of (replicate n None) ≡ map (λ k. []) sizes
-kept-none [] zero same = refl
-kept-none [] (suc n) same = absurd (omega arith)
-kept-none (k ∷ sizes) zero same = absurd (omega arith)
-kept-none (k ∷ sizes) (suc n) same = ap (λ (xs : List (List Pair)). [] ∷ xs) (kept-none sizes n (omega arith))
 
 none-of : (w : Way) (t n sbn : ℕ) → IsBlockOf w t (get_or (replicate n None) sbn None)
 none-of w t zero sbn = tt
 none-of w t (suc n) zero = tt
 none-of w t (suc n) (suc sbn) = none-of w t n sbn
 
-pub held-nothing : (d : Description) (blocks : List (Option Block)) (n : ℕ) → IsGood d → has_ways d ≡ true → blocks ≡ replicate n None → n ≡ block_count d
-    → IsHeld d blocks n false
-held-nothing d blocks n good has is count = record {
-  good = good;
-  has_way = has;
-  blocks_are = λ e. record {
-    number = ap (λ (bs : List (Option Block)). length bs) is ∙ length-replicate n None ∙ count;
-    each = λ sbn within. subst (λ (bs : List (Option Block)). IsBlockOf (way_in d sbn) d.symbol (get_or bs sbn None)) (sym is) (none-of (way_in d sbn) d.symbol n sbn);
-    counted = sym (ap (λ (bs : List (Option Block)). open_in (ways d) (map kept_of bs)) is
-        ∙ open-nothing (ways d) n (count ∙ sym (length-ways d)) (λ w sbn below. ap (λ v. is_complete v []) (ways-at d sbn w (omega (arith, below, length-ways d)))
-        ∙ nothing-open (way_in d sbn) (is_way d sbn good (omega (arith, below, length-ways d)))));
-  };
-  freed = λ e. absurd (false≢true e);
+pub blocks-nothing : (d : Description) (n : ℕ) → IsGood d → n ≡ block_count d → AreBlocks d (replicate n None) n
+blocks-nothing d n good count = record {
+  number = length-replicate n None ∙ count;
+  each = λ sbn within. none-of (way_in d sbn) d.symbol n sbn;
+  counted = count ∙ sym (ap (open_in (ways d)) (kept-none (block_sizes d) n count) ∙ open-all d good);
 }
 
 -- ---- the bytes of a file

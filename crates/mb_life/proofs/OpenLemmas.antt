@@ -60,3 +60,8 @@ pub nothing-open : (w : Way) → IsWay w → is_complete w [] ≡ false
 unfolding is_block_determined is_determined
 nothing-open (NoCode zero) is = absurd (omega (arith, is.0))
 nothing-open (NoCode (suc n)) is = refl
+
+pub open-nothing_left : (ws : List Way) → open_in ws [] ≡ 0
+unfolding open_in
+open-nothing_left [] = refl
+open-nothing_left (w ∷ ws) = refl

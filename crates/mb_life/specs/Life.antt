@@ -8,7 +8,7 @@ use Rattle.mb_geom.specs.declared.desc.Scheme.{Scheme}
 use Rattle.mb_block.specs.declared.way.Way.{Way}
 use Rattle.mb_block.specs.declared.way.Way.TheVariants as way
 use Rattle.mb_block.specs.Way.{way_of, size_of}
-use Rattle.mb_block.specs.Block.{Pair, filled, hear, is_complete, sources}
+use Rattle.mb_block.specs.Block.{Pair, filled, hear, is_complete, sources, buffer_of}
 
 pub record Life : Type 0 where
   pub toi : ℕ
@@ -112,3 +112,14 @@ missing_in (w ∷ others) (kept ∷ blocks) = (size_of w - length kept) + missin
 
 abbrev pub missing : Life → ℕ
 missing life = if life.done then 0 else missing_in (ways life.desc) life.kept
+
+-- the bytes of the buffers of a block of which something is kept
+abbrev pub buffer_for : ℕ → Way → List Pair → ℕ
+buffer_for t w [] = 0
+buffer_for t w (pair ∷ kept) = buffer_of w t
+
+-- the bytes of the buffers of all such blocks, whose symbols have t bytes
+unfoldable pub buffers_in : ℕ → List Way → List (List Pair) → ℕ
+buffers_in t [] blocks = 0
+buffers_in t (w ∷ others) [] = 0
+buffers_in t (w ∷ others) (kept ∷ blocks) = buffer_for t w kept + buffers_in t others blocks

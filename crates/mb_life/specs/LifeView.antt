@@ -1,4 +1,5 @@
--- How a life stands in memory: a block is there once a symbol of it was heard, and none once the file was handed out.
+-- How a life stands in memory: there are places for its blocks once a symbol was heard, and none once the file was
+-- handed out. In its place a block is there once a symbol of it was heard.
 use Rattle.std.specs.Prelude.{◌≡◌, ℕ, ◌+◌, ◌<◌, Bool, true, false, if◌then◌else◌, List, [], ◌∷◌, length, map, slice_index_or, Option, Some, None, ⊤}
 use Rattle.mb_geom.specs.Description.{Description, IsGood, block_count}
 use Rattle.mb_block.specs.declared.way.Way.{Way}
@@ -11,7 +12,7 @@ kept_of None = []
 kept_of (Some block) = block.kept
 
 abbrev pub kept_seen : Bool → Description → List (Option Block) → List (List Pair)
-kept_seen done d blocks = if done then nothing_kept d else map kept_of blocks
+kept_seen placed d blocks = if placed then map kept_of blocks else nothing_kept d
 
 -- a block that is there is one of this way
 abbrev pub IsBlockOf : Way → ℕ → Option Block → Type 0
@@ -28,14 +29,16 @@ open_in [] blocks = 0
 open_in (w ∷ others) [] = 0
 open_in (w ∷ others) (kept ∷ blocks) = (if is_complete w kept then 0 else 1) + open_in others blocks
 
--- the blocks of a file that wasn't handed out
+-- the blocks of a file, each in its place
 pub record AreBlocks (d : Description) (blocks : List (Option Block)) (open_blocks : ℕ) : Type 0 where
   pub number : length blocks ≡ block_count d
   pub each : (sbn : ℕ) → sbn < block_count d → IsBlockOf (way_in d sbn) d.symbol (slice_index_or blocks sbn None)
   pub counted : open_blocks ≡ open_in (ways d) (map kept_of blocks)
 
-pub record IsHeld (d : Description) (blocks : List (Option Block)) (open_blocks : ℕ) (done : Bool) : Type 0 where
+pub record Stands (d : Description) (blocks : List (Option Block)) (open_blocks : ℕ) (placed done : Bool) : Type 0 where
   pub good : IsGood d
   pub has_way : has_ways d ≡ true
-  pub blocks_are : done ≡ false → AreBlocks d blocks open_blocks
-  pub freed : done ≡ true → blocks ≡ []
+  pub blocks_are : placed ≡ true → AreBlocks d blocks open_blocks
+  pub nothing : placed ≡ false → blocks ≡ []
+  pub unheard : placed ≡ false → done ≡ false → open_blocks ≡ block_count d
+  pub freed : done ≡ true → placed ≡ false

@@ -8,7 +8,7 @@ ghost use Rattle.mb_block.specs.Way.{size_of};
 ghost use Rattle.mb_block.specs.Block.{IsWay, IsBlock, is_complete, sources, buffer_of};
 ghost use Rattle.mb_block.specs.declared.way.Way.TheVariants.{NoCode};
 ghost use Rattle.mb_block.specs.declared.way.Way.{Way};
-ghost use Rattle.mb_life.specs.Life.{has_ways, way_in, ways, nothing_kept, start_life, prolong, pairs_from, hear_pairs, hear_in_block, kept_in, has_digest, is_wrongly_empty, is_ready, blocks_of, missing_in, missing, bytes_of, hand_out};
+ghost use Rattle.mb_life.specs.Life.{has_ways, way_in, ways, nothing_kept, start_life, prolong, pairs_from, hear_pairs, hear_in_block, kept_in, has_digest, is_wrongly_empty, is_ready, blocks_of, missing_in, missing, buffer_for, buffers_in, bytes_of, hand_out};
 ghost use Rattle.mb_life.specs.Hearing.{CanHear, hear_payload};
 ghost use Rattle.mb_life.specs.LifeView.{kept_of, IsBlockOf, ArePartly, AreBlocks};
 ghost use Rattle.mb_life.specs.Taking.{IsTaken, IsJudged};
@@ -46,8 +46,10 @@ pub struct Life {
     desc: Desc,
     /// The NTP second up to which it stands.
     expires: u64,
-    /// What was heard of each block. Once the file was handed out there is none.
+    /// What was heard of each block. Before the first symbol, and once the file was handed out, there is none.
     blocks: Vec<Option<BlockRx>>,
+    /// Whether there is a place for each block.
+    placed: bool,
     /// How many blocks are not complete.
     open_blocks: usize,
     done: bool,
@@ -58,11 +60,11 @@ impl Model for Life {
 
     ghost Value = { Life };
 
-    ghost use Rattle.mb_life.specs.LifeView.{kept_seen, IsHeld};
+    ghost use Rattle.mb_life.specs.LifeView.{kept_seen, Stands};
 
-    ghost view = { λ l. record { toi = l.toi; desc = l.desc; expires = l.expires; kept = kept_seen l.done l.desc l.blocks.items; done = l.done } };
+    ghost view = { λ l. record { toi = l.toi; desc = l.desc; expires = l.expires; kept = kept_seen l.placed l.desc l.blocks.items; done = l.done } };
 
-    ghost invariant = { λ l. IsHeld l.desc l.blocks.items l.open_blocks l.done };
+    ghost invariant = { λ l. Stands l.desc l.blocks.items l.open_blocks l.placed l.done };
 }
 
 /// Hears so many symbols of a payload in a block that stands.
@@ -160,7 +162,8 @@ fn kept_of(slot: &Option<BlockRx>) -> u32
 
 /// The bytes of the buffers of a block.
 fn buffered_of(slot: &Option<BlockRx>) -> u64
-    ensures { (w : Way) (t : ℕ) → IsBlockOf w t slot.now → result ≤ buffer_of w t }
+    ensures most { (w : Way) (t : ℕ) → IsBlockOf w t slot.now → result ≤ buffer_of w t }
+    ensures least { (w : Way) (t : ℕ) → IsBlockOf w t slot.now → buffer_for t w (kept_of slot.now) ≤ result }
 {
     match slot {
         Some(block) => block.buffered(),
@@ -187,7 +190,8 @@ fn buffered_among(desc: &Desc, blocks: &[Option<BlockRx>]) -> u64
     requires few { length blocks.now ≤ block_count desc.now }
     requires good { IsGood desc.now }
     requires blocks { ArePartly desc.now blocks.now }
-    ensures { result ≤ sum_by (λ k. buffer_of (NoCode k) desc.now.symbol) (take (length blocks.now) (block_sizes desc.now)) }
+    ensures most { result ≤ sum_by (λ k. buffer_of (NoCode k) desc.now.symbol) (take (length blocks.now) (block_sizes desc.now)) }
+    ensures least { buffers_in desc.now.symbol (take (length blocks.now) (ways desc.now)) (map kept_of blocks.now) ≤ result }
 {
     let mut bytes = 0;
     for sbn in 0..blocks.len() {
@@ -214,6 +218,22 @@ fn no_blocks(alloc: Global, count: usize) -> Result<Vec<Option<BlockRx>>, Memory
     let mut blocks = Vec::with_capacity(alloc, count)?;
     fill(&mut blocks, count);
     Ok(blocks)
+}
+
+/// Makes a place for each block, unless there is one.
+fn place(
+    alloc: Global,
+    blocks: &mut Vec<Option<BlockRx>>,
+    placed: bool,
+    count: usize,
+) -> Result<(), Memory>
+    ensures made { OnOk result (blocks.new.items ≡ (if placed then blocks.old.items else replicate count None)) }
+    ensures refused { OnErr result (blocks.new ≡ blocks.old) }
+{
+    if !placed {
+        *blocks = no_blocks(alloc, count)?;
+    }
+    Ok(())
 }
 
 /// Whether a file is ready that was not handed out yet, where so many of its blocks are not complete.
@@ -355,21 +375,22 @@ fn judge(given: Option<[u8; 16]>, location: Bytes, bytes: Vec<u8>) -> Taken
 }
 
 impl Life {
-    /// A life of which nothing was heard. `Memory` where there is no room for its blocks.
-    pub fn start(alloc: Global, expires: u64, toi: u128, desc: Desc) -> Result<Life, Memory>
+    /// A life of which nothing was heard. It takes no memory: many lives may be described whose symbols never come.
+    pub fn start(alloc: Global, expires: u64, toi: u128, desc: Desc) -> Life
         requires { has_ways desc ≡ true }
-        ensures { IfOk result (λ life. life ≡ start_life expires toi desc) }
+        ensures { result ≡ start_life expires toi desc }
     {
+        let _length = desc.length();
         let open_blocks = desc.blocks() as usize;
-        let blocks = no_blocks(alloc, open_blocks)?;
-        Ok(Life {
+        Life {
             toi,
             desc,
             expires,
-            blocks,
+            blocks: Vec::new(alloc),
+            placed: false,
             open_blocks,
             done: false,
-        })
+        }
     }
 
     /// Its TOI.
@@ -421,8 +442,8 @@ impl Life {
         }
     }
 
-    /// Hears the symbols of a payload in a block, the first of which has this ESI. It takes memory only for a block of
-    /// which nothing was heard. After `Memory` it is as before.
+    /// Hears the symbols of a payload in a block, the first of which has this ESI. It takes memory only for the first
+    /// symbol of all, and for a block of which nothing was heard. After `Memory` it is as before.
     pub fn hear(
         &mut self,
         alloc: Global,
@@ -431,6 +452,7 @@ impl Life {
         payload: &[u8],
     ) -> Result<News, Memory>
         requires { CanHear self.old sbn esi (length payload.now) }
+        ensures block { OnOk result (sbn < length self.old.kept) }
         ensures heard { IfOk result (λ n. self.new ≡ hear_payload sbn esi payload.now self.old) }
         ensures kept { IfOk result (λ n. n.kept ≡ length (kept_in sbn self.new) - length (kept_in sbn self.old)) }
         ensures determined { IfOk result (λ n. n.determined ≡ ceiling (length payload.now) self.old.desc.symbol - n.kept) }
@@ -438,6 +460,9 @@ impl Life {
     {
         let way = self.way(sbn);
         let symbol = self.desc.symbol();
+        let count = self.desc.blocks() as usize;
+        place(alloc, &mut self.blocks, self.placed, count)?;
+        self.placed = true;
         let slot = &mut self.blocks[usize::from(sbn)];
         let was_complete = is_complete(slot);
         let news = hear_in(alloc, slot, &way, symbol, esi, payload)?;
@@ -450,12 +475,19 @@ impl Life {
     pub fn missing(&self) -> u64
         ensures { result ≡ missing self.now }
     {
+        if self.done {
+            return 0;
+        }
+        if !self.placed {
+            return self.desc.plain() / u64::from(self.desc.symbol());
+        }
         missing_among(&self.desc, &self.blocks)
     }
 
-    /// The bytes of the buffers of its blocks.
+    /// The bytes of the buffers of its blocks, of those at least of which a symbol is kept.
     pub fn buffered(&self) -> u64
-        ensures { result ≤ (if self.now.done then 0 else plain self.now.desc + equations self.now.desc) }
+        ensures most { result ≤ (if self.now.done then 0 else plain self.now.desc + equations self.now.desc) }
+        ensures least { buffers_in self.now.desc.symbol (ways self.now.desc) self.now.kept ≤ result }
     {
         buffered_among(&self.desc, &self.blocks)
     }
@@ -490,7 +522,7 @@ impl Life {
     {
         let taken = judge(self.desc.md5(), location, bytes);
         if let Taken::Damaged { .. } = taken {
-            self.restart();
+            self.restart(alloc);
             return taken;
         }
         self.finish(alloc);
@@ -502,18 +534,18 @@ impl Life {
         ensures { self.new ≡ record self.old { kept = nothing_kept self.old.desc; done = true } }
     {
         self.blocks = Vec::new(alloc);
+        self.placed = false;
         self.done = true;
     }
 
     /// Keeps nothing of its blocks, and goes on.
-    fn restart(&mut self)
+    fn restart(&mut self, alloc: Global)
         requires { self.old.done ≡ false }
         ensures { self.new ≡ record self.old { kept = nothing_kept self.old.desc } }
     {
-        let count = self.blocks.as_slice().len();
-        self.blocks.clear();
-        fill(&mut self.blocks, count);
-        self.open_blocks = count;
+        self.blocks = Vec::new(alloc);
+        self.placed = false;
+        self.open_blocks = self.desc.blocks() as usize;
     }
 
     /// Whether each block is complete and the file was not handed out.

@@ -28,7 +28,7 @@ fn started(rt: &impl Abort, alloc: Global, length: u64, md5: Option<[u8; 16]>) -
     };
     let desc = Desc::new(parts).expect(rt, "a good file");
     assert!(rt; has_ways(&desc));
-    Life::start(alloc, 100, 5, desc).expect(rt, "memory")
+    Life::start(alloc, 100, 5, desc)
 }
 
 /// Hears a payload, and says how many symbols were kept, determined, and are missing.
