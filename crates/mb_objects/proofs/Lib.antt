@@ -1,0 +1,9 @@
+pub mod ApartLemmas
+pub mod PlaceLemmas
+pub mod CountLemmas
+pub mod StandLemmas
+pub mod EntryLemmas
+pub mod TickLemmas
+pub mod ReadyLemmas
+pub mod StepLemmas
+pub mod ReasonLemmas

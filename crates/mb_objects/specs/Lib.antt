@@ -1,0 +1,5 @@
+pub mod LivesView
+pub mod Need
+pub mod Stepping
+pub mod Takes
+pub mod Bound
