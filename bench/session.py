@@ -12,8 +12,8 @@ TSI = 1
 ROOT = os.path.dirname(os.path.dirname(os.path.abspath(__file__)))
 TIME = "/usr/bin/time"
 
-# The peak memory is in kB.
-Run = namedtuple("Run", "seconds memory status")
+# The peak memory is in kB. The work is the processor time of the program and of the system for it, in seconds.
+Run = namedtuple("Run", "seconds memory status work")
 
 
 def program(name):
@@ -50,6 +50,15 @@ def text_packet(text):
     size = len(text).to_bytes(6, "big") + b"\0\0" + (0xFFFF).to_bytes(2, "big")
     head = numbers(0x10A00900, 0, TSI, 0, 0xC0100001) + b"\x40\x04" + size + numbers(64, 0)
     return record(head + text)
+
+
+def text_packets(text, symbol=1400):
+    """The packets of an FDT Instance whose text is cut into symbols of so many bytes, in one block."""
+    size = len(text).to_bytes(6, "big") + b"\0\0" + symbol.to_bytes(2, "big")
+    block = -(-len(text) // symbol)
+    head = numbers(0x10A00900, 0, TSI, 0, 0xC0100001) + b"\x40\x04" + size + numbers(block)
+    pieces = [text[place : place + symbol] for place in range(0, len(text), symbol)]
+    return b"".join(record(head + numbers(esi) + piece) for esi, piece in enumerate(pieces))
 
 
 def packet(toi):
@@ -103,7 +112,7 @@ def timed(words, trace_path, folder, out_path):
         with open(peak) as text:
             memory = int(text.read().split()[-1])
         os.remove(peak)
-    return Run(seconds, memory, child.returncode)
+    return Run(seconds, memory, child.returncode, usage.ru_utime + usage.ru_stime)
 
 
 def copy(path):

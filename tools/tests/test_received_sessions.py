@@ -4,13 +4,30 @@ import os
 import unittest
 
 from support.programs import BROKEN, DONE, INCOMPLETE, USAGE, ProgramTest, fdt_line, path_of, receive_words
-from support.traces import MOMENT, TSI, described, file_element, files_session, instance, session, symbol, text
+from support.traces import (
+    MOMENT,
+    TSI,
+    described,
+    file_element,
+    files_session,
+    instance,
+    instance_packets,
+    session,
+    symbol,
+    text,
+)
 
 HELLO = {5: b"hello"}
 
 
 def end(datagrams, cause="ended", moment=MOMENT):
     return f"end {cause} {moment} datagrams {datagrams}\n"
+
+
+def spaced(length):
+    """A text of so many bytes, which describes one file."""
+    whole = text(file_element(5, 5, "hello.txt"))
+    return whole.replace(b"</FDT", b" " * (length - len(whole)) + b"</FDT")
 
 
 class Sessions(ProgramTest):
@@ -35,18 +52,22 @@ class Sessions(ProgramTest):
         refused = "fdt 1 started 0 prolonged 0 conflicting 0 refused 1 norow 0 full 0\n"
         self.received(trace, DONE, refused + end(2) + "dropped unknown 1\n", {})
 
-    def test_a_text_of_the_greatest_length(self):
-        whole = text(file_element(5, 5, "hello.txt"))
-        spaced = whole.replace(b"</FDT", b" " * (65_495 - len(whole)) + b"</FDT")
-        trace = session(instance(spaced), symbol(5, b"hello"))
-        self.received(trace, DONE, fdt_line(1) + "stored 5 5 hello.txt\n" + end(2), HELLO)
+    def test_the_longest_text_in_one_packet(self):
+        """A datagram has room for a byte more behind a short header."""
+        for length, short in ((65_495, False), (65_496, True)):
+            with self.subTest(length):
+                trace = session(instance(spaced(length), short=short), symbol(5, b"hello"))
+                self.received(trace, DONE, fdt_line(1) + "stored 5 5 hello.txt\n" + end(2), HELLO)
 
-    def test_a_longer_text_is_not_received(self):
-        """A datagram has room for it behind a short header alone."""
-        whole = text(file_element(5, 5, "hello.txt"))
-        spaced = whole.replace(b"</FDT", b" " * (65_496 - len(whole)) + b"</FDT")
-        trace = session(instance(spaced, short=True), symbol(5, b"hello"))
-        self.received(trace, DONE, end(2) + "dropped unknown 1\ndropped notbuilt 1\n", {})
+    def test_a_text_of_the_greatest_length(self):
+        packets = instance_packets(spaced(65_536), 4_096)
+        trace = session(*packets, symbol(5, b"hello"))
+        self.received(trace, DONE, fdt_line(1) + "stored 5 5 hello.txt\n" + end(17), HELLO)
+
+    def test_a_longer_text_is_not_heard(self):
+        packets = instance_packets(spaced(65_537), 4_096)
+        trace = session(*packets, symbol(5, b"hello"))
+        self.received(trace, DONE, end(18) + "dropped fdtshape 17\ndropped unknown 1\n", {})
 
     def test_many_datagrams(self):
         """No datagram is the one behind which the receiver gives up."""

@@ -184,14 +184,20 @@ class FileSizes(ProgramTest):
 
 
 class MissingFiles(ProgramTest):
-    def test_a_payload_of_another_length_is_not_stored(self):
+    def test_a_payload_that_is_too_short_is_not_stored(self):
         """The symbol length is above the length of the file, so its one symbol has as many bytes as the file."""
-        for payload in (b"", b"hell", b"hello!"):
+        for payload in (b"", b"hell"):
             with self.subTest(payload):
                 ended = self.called(receive_words(), session(described(HELLO), symbol(5, payload)))
-                end = f"end ended {MOMENT} datagrams 2\ndropped notbuilt 1\nincomplete 5 1\n"
+                end = f"end ended {MOMENT} datagrams 2\ndropped length 1\nincomplete 5 1\n"
                 self.is_ended(ended, INCOMPLETE, fdt_line(1) + end)
                 self.has_files({})
+
+    def test_bytes_behind_the_end_of_a_file_are_not_stored(self):
+        """They may fill its last symbol up."""
+        ended = self.called(receive_words(), session(described(HELLO), symbol(5, b"hello!")))
+        self.is_ended(ended, DONE, LINES)
+        self.has_files(HELLO)
 
 
 if __name__ == "__main__":

@@ -1,5 +1,5 @@
 -- What a call without a fault of the outside answers.
-use Rattle.std.proofs.Common.{◌≡◌, ℕ, ◌≤◌, ◌<◌, ◌+◌, List, [], ◌∷◌, ◌++◌, length, length-append, max, ◌||◌, true, false, fold, Option, Some, None, Result, Ok, Err, arith, refl, ◌∙◌, ap, subst}
+use Rattle.std.proofs.Common.{◌≡◌, ℕ, ◌≤◌, ◌<◌, ◌+◌, List, [], ◌∷◌, ◌++◌, length, length-append, ◌||◌, true, false, fold, Option, Some, None, Result, Ok, Err, arith, refl, ◌∙◌, ap, subst}
 use Rattle.std.specs.List.{AllByRecursion}
 use Rattle.mb_base.specs.Outside.{Becomes, Rose}
 use Rattle.mb_base.specs.Broadcast.{Record, Broadcast, IsPast, Takes}
@@ -11,8 +11,10 @@ use Rattle.mb_rx.specs.declared.cause.Ending.{Ending}
 use Rattle.mb_rx.specs.declared.cause.Ending.TheVariants.{EndsBy, BreaksAt}
 use Rattle.mb_alc.specs.Packet.{Packet, packet_of}
 use Rattle.mb_alc.specs.declared.fault.PacketFault.{PacketFault}
-use Rattle.mb_rx.specs.declared.drops.Reason.TheVariants as reason
-use Rattle.mb_rx.specs.Receiver.{Receiver, Stepped, no_text, drop_for, closes, hear_packet, hear_datagram}
+use Rattle.mb_machine.specs.Table.{Table, tick}
+use Rattle.mb_machine.specs.Packets.{Stepped, drop_for, closes, hear_packet, packet}
+use Rattle.mb_machine.specs.declared.reason.Reason.TheVariants as reason
+use Rattle.mb_rx.specs.Receiver.{Receiver, hear_datagram}
 use Rattle.mb_rx.specs.Run.{Session, after_record, session}
 use Rattle.mb_rx.proofs.Growth.{session-append}
 use Rattle.mb_rx.specs.Receive.{ClosesBy, is_closed, datagrams_most, Outputs, IsEnding, IsEnded, IsBroken, IsRun, IsUncounted, IsWholeTrace, IsCutTrace, Completes, FindsBroken}
@@ -53,21 +55,23 @@ most : (m : ℕ) (records rest : List Record) → length records ≡ m → lengt
 most m records rest all few = let len : length (records ++ rest) ≡ length records + length rest = length-append records rest in omega (arith, all, few, len)
 
 -- a session that was closed stays closed
-datagram-closed : (tsi : ℕ) (r : Receiver) (packet : Result Packet PacketFault) → r.closed ≡ true → (hear_datagram tsi r packet).receiver.closed ≡ true
-datagram-closed tsi r (Err fault) closed = closed
-datagram-closed tsi r (Ok p) closed =
-    let dropped : hear_packet tsi r p ≡ no_text (drop_for reason.Closed r) = rw closed refl in
-    ap (λ (s : Stepped). s.receiver.closed || closes tsi p) dropped ∙ ap (λ b. b || closes tsi p) closed
+packet-closed : (at : ℕ) (p : Packet) (t : Table) → t.closed ≡ true → (packet at p t).table.closed ≡ true
+packet-closed at p t closed =
+    let dropped : hear_packet p (tick at t) ≡ drop_for reason.Closed (tick at t) = rw closed refl in
+    ap (λ (s : Stepped). s.table.closed || closes t.tsi p) dropped ∙ ap (λ b. b || closes t.tsi p) closed
 
-records-closed : (tsi : ℕ) (s : Session) (records : List Record) → s.receiver.closed ≡ true → (fold (after_record tsi) s records).receiver.closed ≡ true
-records-closed tsi s [] closed = closed
-records-closed tsi s (heard ∷ records) closed =
-    records-closed tsi (after_record tsi s heard) records
-    (datagram-closed tsi (record s.receiver { clock = max s.receiver.clock heard.at }) (packet_of heard.bytes) closed)
+datagram-closed : (at : ℕ) (p : Result Packet PacketFault) (r : Receiver) → r.table.closed ≡ true → (hear_datagram at p r).receiver.table.closed ≡ true
+datagram-closed at (Err fault) r closed = closed
+datagram-closed at (Ok p) r closed = packet-closed at p r.table closed
+
+records-closed : (s : Session) (records : List Record) → s.receiver.table.closed ≡ true → (fold after_record s records).receiver.table.closed ≡ true
+records-closed s [] closed = closed
+records-closed s (heard ∷ records) closed =
+    records-closed (after_record s heard) records (datagram-closed heard.at (packet_of heard.bytes) s.receiver closed)
 
 stays-closed : (words : RxWords) (xs ys : List Record) → is_closed words xs ≡ true → is_closed words (xs ++ ys) ≡ true
 stays-closed words xs ys closed =
-    ap (λ (s : Session). s.receiver.closed) (session-append words.tsi xs ys) ∙ records-closed words.tsi (session words.tsi xs) ys closed
+    ap (λ (s : Session). s.receiver.table.closed) (session-append words.tsi xs ys) ∙ records-closed (session words.tsi xs) ys closed
 
 -- a session that listens up to where the air breaks does not end before
 not_ended : (words : RxWords) (records : List Record) (ending : Option Ending) (old : Broadcast) (air : Option Broadcast) (place : ℕ) → old.broken ≡ Some place

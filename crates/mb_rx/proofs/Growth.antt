@@ -3,7 +3,7 @@ use Rattle.std.proofs.Common.{◌≡◌, ℕ, List, [], ◌∷◌, ◌++◌, Opt
 use Rattle.std.proofs.lemmas.List.Sums.{fold-append}
 use Rattle.mb_base.specs.Broadcast.{Record}
 use Rattle.mb_rx.specs.Receiver.{fresh, step}
-use Rattle.mb_rx.specs.Run.{Event, Line, Known, Session, after_record, session, text_events, hand_out_events, end_events, events_of, Extends}
+use Rattle.mb_rx.specs.Run.{Event, Line, Known, Session, after_record, session, packet_events, hand_out_events, end_events, events_of, Extends}
 use Rattle.mb_program.specs.Lines as program
 use Rattle.mb_rx.specs.declared.cause.Cause.{Cause}
 use Rattle.mb_rx.specs.declared.words.RxWords.{RxWords}
@@ -12,29 +12,29 @@ use Rattle.mb_rx.specs.declared.cause.Ending.TheVariants.{EndsBy, BreaksAt}
 use Rattle.mb_rx.specs.Receive.{events_by, known_of}
 
 -- before anything is heard
-pub session-nil : (tsi : ℕ) → session tsi [] ≡ record { receiver = fresh; events = [] }
+pub session-nil : (tsi : ℕ) → session tsi [] ≡ record { receiver = fresh tsi; events = [] }
 unfolding session
 session-nil tsi = refl
 
 -- later records go on from the session that the first ones made
-pub session-append : (tsi : ℕ) (xs ys : List Record) → session tsi (xs ++ ys) ≡ fold (after_record tsi) (session tsi xs) ys
+pub session-append : (tsi : ℕ) (xs ys : List Record) → session tsi (xs ++ ys) ≡ fold after_record (session tsi xs) ys
 unfolding session
-session-append tsi xs ys = fold-append (after_record tsi) (record { receiver = fresh; events = [] }) xs ys
+session-append tsi xs ys = fold-append after_record (record { receiver = fresh tsi; events = [] }) xs ys
 
 -- one more record
-pub session-push : (tsi : ℕ) (records : List Record) (heard : Record) → session tsi (records ++ heard ∷ []) ≡ after_record tsi (session tsi records) heard
+pub session-push : (tsi : ℕ) (records : List Record) (heard : Record) → session tsi (records ++ heard ∷ []) ≡ after_record (session tsi records) heard
 session-push tsi records heard = session-append tsi records (heard ∷ [])
 
 -- what a record adds to the events
-abbrev pub events_at : ℕ → Session → Record → List Event
-events_at tsi s heard = let stepped = step tsi s.receiver heard in text_events stepped.text ++ hand_out_events stepped.receiver.lives
+abbrev pub events_at : Session → Record → List Event
+events_at s heard = let stepped = step s.receiver heard in packet_events stepped.happened ++ hand_out_events stepped.receiver.table.lives
 
 -- records only add events, at the end
-pub events_grow : (tsi : ℕ) (s : Session) (records : List Record) → (later : List Event) × ((fold (after_record tsi) s records).events ≡ s.events ++ later)
-events_grow tsi s [] = ([], sym (append-nil s.events))
-events_grow tsi s (heard ∷ records) =
-    let r = events_grow tsi (after_record tsi s heard) records in
-    (events_at tsi s heard ++ r.0, r.1 ∙ append_assoc s.events (events_at tsi s heard) r.0)
+pub events_grow : (s : Session) (records : List Record) → (later : List Event) × ((fold after_record s records).events ≡ s.events ++ later)
+events_grow s [] = ([], sym (append-nil s.events))
+events_grow s (heard ∷ records) =
+    let r = events_grow (after_record s heard) records in
+    (events_at s heard ++ r.0, r.1 ∙ append_assoc s.events (events_at s heard) r.0)
 
 -- while the session goes on, more records add events at the end
 grows_on : (known more : Known) → known.cause ≡ None → more.words ≡ known.words
@@ -43,8 +43,8 @@ grows_on known more c w later e =
     let tsi = known.words.tsi in
     let was = session tsi known.records in
     let now = session more.words.tsi more.records in
-    let goes : now ≡ fold (after_record tsi) was later = ap (λ (words : RxWords). session words.tsi more.records) w ∙ ap (session tsi) e ∙ session-append tsi known.records later in
-    let r = events_grow tsi was later in
+    let goes : now ≡ fold after_record was later = ap (λ (words : RxWords). session words.tsi more.records) w ∙ ap (session tsi) e ∙ session-append tsi known.records later in
+    let r = events_grow was later in
     let ending = end_events more now.receiver more.cause in
     let old : events_of known ≡ was.events = ap (λ cause. was.events ++ end_events known was.receiver cause) c ∙ append-nil was.events in
     let new : events_of more ≡ was.events ++ (r.0 ++ ending) = ap (λ (s : Session). s.events ++ ending) goes ∙ ap (λ events. events ++ ending) r.1 ∙ append_assoc was.events r.0 ending in

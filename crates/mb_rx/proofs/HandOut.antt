@@ -1,133 +1,159 @@
--- What is handed out after a datagram: nothing where no life waits, and the one life that has heard its file.
-use Rattle.std.proofs.Common.{◌≡◌, ◌<◌, ℕ, zero, suc, ◌||◌, Bool, true, false, cond, List, [], ◌∷◌, map, length, get_or, set, Option, Some, None, Ok, Err, refl, sym, ap, ◌∙◌, arith}
-use Rattle.std.proofs.lemmas.Grind.{common_steps}
-use Rattle.mb_rx.specs.Receiver as receiver
-use Rattle.mb_rx.specs.Run.{Event, Line, Session, after_step, hand_out_events, put_events}
-use Rattle.mb_rx.specs.ValueView.{IsLifeAt, IsHandedOut, life_seen, lives_seen}
-use Rattle.mb_rx.specs.declared.lives.Life.{Life}
-use Rattle.mb_rx.specs.declared.drops.Reason.{Reason}
-use Rattle.mb_rx.specs.declared.drops.Reason.TheVariants.{NotBuilt, Done}
-use Rattle.mb_rx.specs.declared.drops.Drops.{Drops}
-use Rattle.mb_rx.specs.declared.faults.Faults.{Faults}
-use Rattle.mb_alc.specs.declared.fault.PacketFault.{PacketFault}
-use Rattle.mb_alc.specs.Packet.{Body}
-use Rattle.mb_alc.specs.Words.{kind_of}
-use Rattle.mb_rx.specs.declared.table.Heard.{Heard}
-use Rattle.mb_rx.specs.declared.table.Heard.TheVariants.{Nothing, Instance, BadInstance, File}
-use Rattle.mb_rx.specs.declared.lives.Report.{Report}
-use Rattle.mb_fdt_text.specs.declared.fdt.Fdt.{Fdt}
-use Rattle.mb_fdt_text.specs.declared.fdt.FdtFault.{FdtFault}
+-- How ready lives are handed out, one after another.
+use Rattle.std.proofs.Common.{◌≡◌, ℕ, suc, ◌<◌, Bool, true, false, cond, List, [], ◌∷◌, ◌++◌, length, filter, find, flat_map, Option, Some, None, option_map, unwrap_or, Result, Ok, Err, refl, sym, ap, ◌∙◌, subst, append_assoc, arith}
+use Rattle.std.proofs.lemmas.Option.{same_Some}
+use Rattle.mb_base.specs.Status.{Status}
+use Rattle.mb_base.specs.Status.TheVariants as status
+use Rattle.mb_life.specs.Life.{Life, is_ready, hand_out}
+use Rattle.mb_life.specs.Taking.{IsTaken}
+use Rattle.mb_life.specs.declared.taken.Taken.{Taken}
+use Rattle.mb_life.specs.declared.taken.Taken.TheVariants as taken
+use Rattle.mb_machine.specs.Table.{Table, life_of, change_life}
+use Rattle.mb_machine.specs.Laws.{IsFirstReady, with_hand_outs}
+use Rattle.mb_machine.proofs.HandOutLemmas.{found_passes, leaves_others, flat_map-ready, length-ready, none_ready}
+use Rattle.mb_objects.specs.Takes.{if_ready, ready_life, TakesOut, Takes}
+use Rattle.mb_objects.specs.declared.table.TakeFault.{TakeFault}
+use Rattle.mb_objects.specs.declared.table.TakeFault.TheVariants as fault
 use Rattle.mb_rx.specs.Lines as line
-use Rattle.mb_rx.specs.Heard.{IsFileOf, IsHeard}
-use Rattle.mb_rx.proofs.LivesLemmas.{life_of-at, lives_seen-set}
-use Rattle.std.proofs.lemmas.List.{get_or-set_same}
+use Rattle.mb_rx.specs.Run.{Event, Put, Line, put_events, damaged_events, taken_events, hand_out_events}
+use Rattle.mb_rx.specs.Receive.{Outputs, Makes, Stops, Does}
+use Rattle.mb_rx.specs.Taking.{HandsOneOut}
+use Rattle.mb_rx.proofs.Making.{Makes-nil, Makes-trans, Stops-more, Stops-after, Stops-memory, Does-after}
 
--- no life waits between two datagrams
-pub handed_out-seen : (lives : List Life) → map receiver.handed_out (lives_seen lives) ≡ lives_seen lives
-handed_out-seen [] = refl
-handed_out-seen (life ∷ lives) = ap (λ xs. life_seen life ∷ xs) (handed_out-seen lives)
+-- The events of one life.
 
-pub hand_out_events-seen : (lives : List Life) → hand_out_events (lives_seen lives) ≡ []
-hand_out_events-seen [] = refl
-hand_out_events-seen (life ∷ lives) = hand_out_events-seen lives
+-- a file that is put, and its line
+pub stored-events : (life : Life) (toi : ℕ) (location bytes text : List ℕ) → life.toi ≡ toi → IsTaken life (taken.File location bytes)
+    → text ≡ line.stored toi (length bytes) location
+    → (Put (record { toi = toi; location = location; bytes = bytes }) ∷ []) ++ (Line text ∷ []) ≡ taken_events life
+stored-events life toi location bytes text own is shown =
+    rw (shown, sym own, is.1, is.2) refl ∙ sym (ap (λ b. cond b (damaged_events life) (put_events life)) is.0)
 
--- the receiver that the definitions see
-abbrev pub receiver_of : ℕ → Bool → Bool → List Life → Faults → Drops → receiver.Receiver
-receiver_of clock closed described lives faults drops =
-    record { clock = clock; closed = closed; described = described; lives = lives_seen lives; faults = faults; drops = drops }
+-- a file of which the store, memory or the sink gives no more: its parts are those that were taken
+pub stored-unput : (life : Life) (toi : ℕ) (location bytes at put : List ℕ) (given : Taken) (reason : Status) (a b : Outputs)
+    → given ≡ taken.File location bytes → life.toi ≡ toi → IsTaken life given → at ≡ location → put ≡ bytes
+    → Stops reason a b (Put (record { toi = toi; location = at; bytes = put }) ∷ []) → Stops reason a b (taken_events life)
+stored-unput life toi location bytes at put given reason a b of own is l p s =
+    let file : IsTaken life (taken.File at put) = rw (l, p) (subst (λ (t : Taken). IsTaken life t) of is) in
+    subst (λ (es : List Event). Stops reason a b es) (stored-events life toi at put _ own file refl) (Stops-more reason a b _ _ s)
 
--- a datagram that is refused or dropped makes no event
-pub refused-made : (clock : ℕ) (closed described : Bool) (lives : List Life) (faults : Faults) (drops : Drops) (fault : PacketFault)
-    → after_step [] (receiver.no_text (receiver.refuse_for fault (receiver_of clock closed described lives faults drops)))
-    ≡ record { receiver = receiver_of clock closed described lives (receiver.counted_fault (kind_of fault) faults) drops; events = [] }
-refused-made clock closed described lives faults drops fault = rw (handed_out-seen lives, hand_out_events-seen lives) refl
+pub stored-unprinted : (life : Life) (toi : ℕ) (location bytes at put : List ℕ) (given : Taken) (a b : Outputs)
+    → given ≡ taken.File location bytes → life.toi ≡ toi → IsTaken life given → at ≡ location → put ≡ bytes
+    → Makes a b (Put (record { toi = toi; location = at; bytes = put }) ∷ []) → Stops status.Memory a b (taken_events life)
+stored-unprinted life toi location bytes at put given a b of own is l p m =
+    let file : IsTaken life (taken.File at put) = rw (l, p) (subst (λ (t : Taken). IsTaken life t) of is) in
+    subst (λ (es : List Event). Stops status.Memory a b es) (stored-events life toi at put _ own file refl) (Stops-after status.Memory a b b _ _ m (Stops-memory b _))
 
-pub dropped-made : (clock : ℕ) (closed described : Bool) (lives : List Life) (faults : Faults) (drops : Drops) (reason : Reason)
-    → after_step [] (receiver.no_text (receiver.drop_for reason (receiver_of clock closed described lives faults drops)))
-    ≡ record { receiver = receiver_of clock closed described lives faults (receiver.counted reason drops); events = [] }
-dropped-made clock closed described lives faults drops reason = rw (handed_out-seen lives, hand_out_events-seen lives) refl
+pub stored-printed : {A : Type 0} (life : Life) (toi : ℕ) (location bytes at put : List ℕ) (given : Taken) (text : List ℕ) (a b c : Outputs) (result : Result A Status)
+    → given ≡ taken.File location bytes → life.toi ≡ toi → IsTaken life given → at ≡ location → put ≡ bytes → text ≡ line.stored toi (length put) at
+    → Makes a b (Put (record { toi = toi; location = at; bytes = put }) ∷ []) → Does b c (Line text ∷ []) result → Does a c (taken_events life) result
+stored-printed life toi location bytes at put given text a b c result of own is l p shown m d =
+    let file : IsTaken life (taken.File at put) = rw (l, p) (subst (λ (t : Taken). IsTaken life t) of is) in
+    subst (λ (es : List Event). Does a c es result) (stored-events life toi at put text own file shown) (Does-after a b c _ _ result m d)
 
--- the life has heard its file, and is the only one that waits
-pub handed_out-at : (toi place : ℕ) (lives : List Life) (life : Life) (payload : List ℕ) → IsLifeAt toi lives place life → life.done ≡ false
-    → map receiver.handed_out (receiver.change_life toi (λ l. record l { heard = Some payload }) (lives_seen lives))
-    ≡ lives_seen (set lives place (record life { done = true }))
-handed_out-at toi place [] life payload p undone = absurd p
-handed_out-at toi zero (first ∷ lives) life payload p undone = rw (p.0, sym p.1, undone, handed_out-seen lives) refl
-handed_out-at toi (suc place) (first ∷ lives) life payload p undone =
-    rw p.0 (ap (λ xs. life_seen first ∷ xs) (handed_out-at toi place lives life payload p.1 undone))
+-- the line of a damaged one
+pub damaged-events : (life : Life) (toi : ℕ) (given found text : List ℕ) → life.toi ≡ toi → IsTaken life (taken.Damaged given found)
+    → text ≡ line.damaged toi given found → Line text ∷ [] ≡ taken_events life
+damaged-events life toi given found text own is shown =
+    let stated : List ℕ = unwrap_or life.desc.md5 [] in
+    ap (λ (bytes : List ℕ). Line bytes ∷ []) (shown ∙ (ap (λ n. line.damaged n given found) (sym own)
+    ∙ (ap (λ (d : List ℕ). line.damaged life.toi d found) (sym (ap (λ (d : Option (List ℕ)). unwrap_or d []) is.1)) ∙ ap (line.damaged life.toi stated) is.2)))
+    ∙ sym (ap (λ b. cond b (damaged_events life) (put_events life)) is.0)
 
-pub hand_out_events-at : (toi place : ℕ) (lives : List Life) (life : Life) (payload : List ℕ) → IsLifeAt toi lives place life → life.done ≡ false
-    → hand_out_events (receiver.change_life toi (λ l. record l { heard = Some payload }) (lives_seen lives))
-    ≡ put_events (record (life_seen life) { heard = Some payload })
-hand_out_events-at toi place [] life payload p undone = absurd p
-hand_out_events-at toi zero (first ∷ lives) life payload p undone = rw (p.0, sym p.1, undone, hand_out_events-seen lives) refl
-hand_out_events-at toi (suc place) (first ∷ lives) life payload p undone =
-    rw p.0 (hand_out_events-at toi place lives life payload p.1 undone)
+-- The first ready life.
 
--- a life for which no reason holds was not handed out
-pub not_done : (refused done : Bool) → cond refused (Some NotBuilt) (cond done (Some Done) None) ≡ None → done ≡ false
-not_done true done e = absurd cc
-not_done false true e = absurd cc
-not_done false false e = refl
+-- the life of the TOI is the first that is ready
+pub record IsFirstOf (lives : List Life) (toi : ℕ) : Type 0 where
+  pub life : Life
+  pub own : life.toi ≡ toi
+  pub first : IsFirstReady lives life
 
--- The file of a life, and the text of an instance.
+pub first_of : (lives : List Life) (toi : ℕ) (found : Option Life) → find is_ready lives ≡ found → Some toi ≡ option_map (λ (life : Life). life.toi) found
+    → ((life : Life) → find is_ready lives ≡ Some life → IsFirstReady lives life) → IsFirstOf lives toi
+first_of lives toi None is named firsts = absurd cc
+first_of lives toi (Some life) is named firsts = record { life = life; own = sym (same_Some toi life.toi named); first = firsts life is }
 
-abbrev session_of : receiver.Receiver → List Event → Session
-session_of r events = record { receiver = r; events = events }
+-- it is the one that is ready by its TOI
+pub ready_of : (t : Table) (toi : ℕ) (f : IsFirstOf t.lives toi) → ready_life toi t ≡ Some f.life
+ready_of t toi f =
+    let found : life_of toi t.lives ≡ Some f.life = subst (λ (n : ℕ). life_of n t.lives ≡ Some f.life) f.own f.first.own in
+    ap if_ready found ∙ ap (λ b. cond b (Some f.life) None) (found_passes is_ready t.lives f.life f.first.first)
 
-pub hear_symbols-made : (r : receiver.Receiver) (lives new : List Life) (toi place : ℕ) (body : Body)
-    → r.lives ≡ lives_seen lives → IsHandedOut lives new toi place
-    → receiver.object_reason (receiver.life_of toi (lives_seen lives)) body ≡ None
-    → IsFileOf (after_step [] (receiver.no_text (receiver.hear_symbols r toi body.payload (receiver.object_reason (receiver.life_of toi r.lives) body))))
-    (record r { lives = lives_seen new }) place body.payload
-hear_symbols-made r lives new toi place body seen h none =
-    let payload = body.payload in
-    let found : receiver.life_of toi (lives_seen lives) ≡ Some (life_seen h.life) = life_of-at toi lives place h.life h.at in
-    let free : receiver.object_reason (Some (life_seen h.life)) body ≡ None = ap (λ (o : Option receiver.Life). receiver.object_reason o body) (sym found) ∙ none in
-    let undone : h.life.done ≡ false = not_done _ h.life.done free in
-    let done : receiver.Life = life_seen (record h.life { done = true }) in
-    let set_there : lives_seen new ≡ set (lives_seen lives) place done = ap lives_seen h.now ∙ lives_seen-set lives place (record h.life { done = true }) in
-    let within : place < length (lives_seen lives) = grind (arith, common_steps, h.within) in
-    let reason : receiver.object_reason (receiver.life_of toi r.lives) body ≡ None =
-    ap (λ (xs : List receiver.Life). receiver.object_reason (receiver.life_of toi xs) body) seen ∙ none in
-    let heard : List receiver.Life = receiver.change_life toi (λ l. record l { heard = Some payload }) (lives_seen lives) in
+-- what taking it gives, and leaves
+pub taken_of : (old new : Table) (toi : ℕ) (given : Taken) (f : IsFirstOf old.lives toi) → TakesOut toi old new given
+    → IsTaken f.life given × (new ≡ record old { lives = change_life f.life.toi hand_out old.lives })
+taken_of old new toi given f t =
+    let same : t.life ≡ f.life = same_Some t.life f.life (sym t.was ∙ ready_of old toi f) in
+    (subst (λ (l : Life). IsTaken l given) same t.gives, t.left ∙ ap (λ n. record old { lives = change_life n hand_out old.lives }) (sym f.own))
+
+-- so taking it doesn't answer that no life of the TOI is ready
+pub not_unready : (old new : Table) (toi : ℕ) (why : TakeFault) → IsFirstOf old.lives toi → why ≡ fault.NotReady → Takes toi old new (Err why) → ⊥
+not_unready old new toi why f is takes =
+    let none : Takes toi old new (Err fault.NotReady) = subst (λ (x : TakeFault). Takes toi old new (Err x)) is takes in
+    let some = ready_of old toi f in
+    let neither : Some f.life ≡ None = sym some ∙ none.0 in
+    absurd cc
+
+-- a status stopped its events
+pub one_stopped : (old new : Table) (x y : Outputs) (toi : ℕ) (f : IsFirstOf old.lives toi) (reason answer : Status) (result : Result Bool Status)
+    → result ≡ Err answer → answer ≡ reason → Stops reason x y (taken_events f.life) → HandsOneOut old new x y result
+one_stopped old new x y toi f reason answer result r e s =
+    subst (λ (z : Result Bool Status). HandsOneOut old new x y z) (sym (r ∙ ap Err e)) (f.life, f.first, s)
+
+-- One after another.
+
+-- what was made so far, and what is left to be made
+pub record IsHandedSoFar (old new : Table) (before after : Outputs) : Type 0 where
+  pub made : List Event
+  pub makes : Makes before after made
+  pub left : hand_out_events old.lives ≡ made ++ hand_out_events new.lives
+  pub same : with_hand_outs new ≡ with_hand_outs old
+
+pub so_far-none : (t : Table) (o : Outputs) → IsHandedSoFar t t o o
+so_far-none t o = record { made = []; makes = Makes-nil o; left = refl; same = refl }
+
+pub so_far-next : (a b c : Table) (x y z : Outputs) → IsHandedSoFar a b x y → HandsOneOut b c y z (Ok true) → IsHandedSoFar a c x z
+so_far-next a b c x y z s h =
+    let life = h.0 in
+    let now = h.1 in
+    let lives = change_life life.toi hand_out b.lives in
+    let rest : hand_out_events b.lives ≡ taken_events life ++ hand_out_events c.lives
+    = flat_map-ready taken_events b.lives life now.first ∙ ap (λ (t : Table). taken_events life ++ hand_out_events t.lives) (sym now.left) in
     record {
-      within = grind (arith, common_steps, set_there, within);
-      life = done;
-      at = ap (λ (xs : List receiver.Life). get_or xs place done) set_there ∙ get_or-set_same (lives_seen lives) place done done within;
-      made = ap (λ (o : Option Reason). after_step [] (receiver.no_text (receiver.hear_symbols r toi payload o))) reason
-          ∙ (ap (λ (xs : List receiver.Life). after_step [] (receiver.no_text (record r { lives = receiver.change_life toi (λ l. record l { heard = Some payload }) xs }))) seen
-          ∙ (ap (λ (xs : List receiver.Life). session_of (record r { lives = xs }) (hand_out_events heard)) (handed_out-at toi place lives h.life payload h.at undone ∙ ap lives_seen (sym h.now))
-          ∙ ap (λ (es : List Event). session_of (record r { lives = lives_seen new }) es) (hand_out_events-at toi place lives h.life payload h.at undone)));
+      made = s.made ++ taken_events life;
+      makes = Makes-trans x y z s.made (taken_events life) s.makes h.2;
+      left = s.left ∙ (ap (λ (es : List Event). s.made ++ es) rest ∙ sym (append_assoc s.made (taken_events life) (hand_out_events c.lives)));
+      same = ap with_hand_outs now.left ∙ (ap (λ (ls : List Life). record b { lives = ls }) (leaves_others b.lives life now.first).after ∙ s.same);
     }
 
-pub hear_text-made : (r : receiver.Receiver) (id : ℕ) (fdt : Fdt) (lives new : List Life) (report : Report)
-    → r.lives ≡ lives_seen lives → receiver.is_instance_built r.clock fdt ≡ true
-    → receiver.with_instance fdt.expires fdt.files (lives_seen lives) ≡ record { lives = lives_seen new; report = report }
-    → after_step [] (receiver.hear_text r id (Ok fdt))
-    ≡ record { receiver = record r { described = true; lives = lives_seen new }; events = Line (line.instance id report) ∷ [] }
-hear_text-made r id fdt lives new report seen built done = rw (built, seen, done, handed_out-seen new, hand_out_events-seen new) refl
+-- fewer are ready
+pub fewer : (b c : Table) (y z : Outputs) → HandsOneOut b c y z (Ok true) → length (filter is_ready c.lives) < length (filter is_ready b.lives)
+fewer b c y z h =
+    let less : length (filter is_ready b.lives) ≡ suc (length (filter is_ready c.lives))
+    = length-ready b.lives h.0 h.1.first ∙ ap (λ (t : Table). suc (length (filter is_ready t.lives))) (sym h.1.left) in
+    omega (arith, less)
 
--- a text that has a fault changes nothing
-pub bad_text-made : (clock : ℕ) (closed described : Bool) (lives : List Life) (faults : Faults) (drops : Drops) (id : ℕ) (fault : FdtFault)
-    → after_step [] (receiver.hear_text (receiver_of clock closed described lives faults drops) id (Err fault))
-    ≡ record { receiver = receiver_of clock closed described lives faults drops; events = Line (line.bad_instance id fault) ∷ [] }
-bad_text-made clock closed described lives faults drops id fault = rw (handed_out-seen lives, hand_out_events-seen lives) refl
+-- none is ready any more
+pub all_handed : (a b c : Table) (x y z : Outputs) → IsHandedSoFar a b x y → HandsOneOut b c y z (Ok false)
+    → (c ≡ with_hand_outs a) × Makes x z (hand_out_events a.lives)
+all_handed a b c x y z s h =
+    let none = none_ready b.lives h.0 in
+    let nothing : hand_out_events b.lives ≡ [] = ap (flat_map taken_events) none.0 in (
+      h.1 ∙ (ap (λ (ls : List Life). record b { lives = ls }) (sym none.1) ∙ s.same),
+      subst (λ (es : List Event). Makes x z es) (sym (s.left ∙ ap (λ (es : List Event). s.made ++ es) nothing)) (Makes-trans x y z s.made [] s.makes h.2),
+    )
 
--- A packet with Close Session.
+-- a status stopped the events of a life
+pub stopped : (a b c : Table) (x y z : Outputs) (reason : Status) → IsHandedSoFar a b x y → HandsOneOut b c y z (Err reason)
+    → Stops reason x z (hand_out_events a.lives)
+stopped a b c x y z reason s h =
+    let life = h.0 in
+    let rest : hand_out_events b.lives ≡ taken_events life ++ hand_out_events (change_life life.toi hand_out b.lives) = flat_map-ready taken_events b.lives life h.1 in
+    subst (λ (es : List Event). Stops reason x z es) (sym (s.left ∙ ap (λ (es : List Event). s.made ++ es) rest))
+    (Stops-after reason x y z s.made _ s.makes (Stops-more reason y z (taken_events life) _ h.2))
 
--- a session that is closed besides, or is not
-abbrev pub closed_by : Bool → Session → Session
-closed_by closing s = session_of (record s.receiver { closed = s.receiver.closed || closing }) s.events
+-- what the answer of handing one out tells
+pub was_one : (b c : Table) (y z : Outputs) (more : Bool) → more ≡ true → HandsOneOut b c y z (Ok more) → HandsOneOut b c y z (Ok true)
+was_one b c y z more is h = subst (λ (m : Bool). HandsOneOut b c y z (Ok m)) is h
 
--- what was heard of a packet stays when it closes the session
-heard-closed : (closing : Bool) (after : Session) (new : receiver.Receiver) (heard : Heard) → IsHeard after new heard
-    → IsHeard (closed_by closing after) (record new { closed = new.closed || closing }) heard
-heard-closed closing after new Nothing is = ap (closed_by closing) is
-heard-closed closing after new (Instance id report) is = ap (closed_by closing) is
-heard-closed closing after new (BadInstance id fault) is = ap (closed_by closing) is
-heard-closed closing after new (File place payload) is = record { within = is.within; life = is.life; at = is.at; made = ap (closed_by closing) is.made }
-
-pub heard-packet : (s : receiver.Stepped) (new : receiver.Receiver) (heard : Heard) (closing : Bool) → IsHeard (after_step [] s) new heard
-    → IsHeard (after_step [] (receiver.close_if closing s)) (record new { closed = new.closed || closing }) heard
-heard-packet s new heard closing is = heard-closed closing (after_step [] s) new heard is
+pub was_none : (b c : Table) (y z : Outputs) (more : Bool) → more ≡ false → HandsOneOut b c y z (Ok more) → HandsOneOut b c y z (Ok false)
+was_none b c y z more is h = subst (λ (m : Bool). HandsOneOut b c y z (Ok m)) is h

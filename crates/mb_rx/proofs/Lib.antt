@@ -1,12 +1,10 @@
-pub mod ApartLemmas
 pub mod Making
-pub mod LivesLemmas
 pub mod HandOut
 pub mod Growth
 pub mod Ready
 pub mod Honest
 pub mod ListenLemmas
-pub mod HeardLemmas
 pub mod Printing
 pub mod RunLemmas
 pub mod Faultless
+pub mod WordLemmas

@@ -1,13 +1,11 @@
 -- How parts of a run join: what is made after what was made, and what stops after that.
-use Rattle.std.proofs.Common.{◌≡◌, length, ℕ, ◌≤◌, List, [], ◌∷◌, ◌++◌, Option, Some, append-nil, Result, Ok, Err, refl, sym, ap, ◌∙◌, subst, append_assoc, arith}
+use Rattle.std.proofs.Common.{◌≡◌, ℕ, ◌≤◌, List, [], ◌∷◌, ◌++◌, Option, append-nil, Result, Ok, Err, refl, sym, ap, ◌∙◌, subst, append_assoc, arith}
 use Rattle.mb_base.specs.Outside.{Grows, Rose}
 use Rattle.mb_base.specs.Files.{File}
 use Rattle.mb_base.specs.Status.{Status}
 use Rattle.mb_base.specs.Status.TheVariants as status
 use Rattle.mb_base.proofs.Content.{Grows-nil, Grows-trans}
-use Rattle.mb_rx.specs.Run.{Event, Put, Line, Ask, put_events}
-use Rattle.mb_rx.specs.Receiver.{Life}
-use Rattle.mb_rx.specs.Lines as line
+use Rattle.mb_rx.specs.Run.{Event, Put, Line, Ask}
 use Rattle.mb_rx.specs.Receive.{puts_in, text_in, Outputs, Makes, Stops, StopsAt, IsPutNext, IsCutLine, Does, outputs}
 use Rattle.mb_program.specs.Printing as printing
 
@@ -114,32 +112,6 @@ pub Does-after : {A : Type 0} (a b c : Outputs) (xs ys : List Event) (result : R
     → Makes a b xs → Does b c ys result → Does a c (xs ++ ys) result
 Does-after a b c xs ys (Ok x) m d = Makes-trans a b c xs ys m d
 Does-after a b c xs ys (Err reason) m d = Stops-after reason a b c xs ys m d
-
--- the events of a file that is put and printed
-pub stored-events : (life : Life) (toi : ℕ) (payload location text : List ℕ) → toi ≡ life.toi → location ≡ life.desc.location
-    → text ≡ line.stored toi (length payload) location
-    → (Put (record { toi = toi; location = location; bytes = payload }) ∷ []) ++ (Line text ∷ []) ≡ put_events (record life { heard = Some payload })
-stored-events life toi payload location text t l is = rw (is, t, l) refl
-
--- a file of which the store, memory or the sink gives no more
-pub stored-unput : (life : Life) (toi : ℕ) (payload location : List ℕ) (reason : Status) (a b : Outputs) → toi ≡ life.toi → location ≡ life.desc.location
-    → Stops reason a b (Put (record { toi = toi; location = location; bytes = payload }) ∷ [])
-    → Stops reason a b (put_events (record life { heard = Some payload }))
-stored-unput life toi payload location reason a b t l s =
-    subst (λ (es : List Event). Stops reason a b es) (stored-events life toi payload location _ t l refl) (Stops-more reason a b _ _ s)
-
-pub stored-memory : (life : Life) (toi : ℕ) (payload location : List ℕ) (a b : Outputs) → toi ≡ life.toi → location ≡ life.desc.location
-    → Makes a b (Put (record { toi = toi; location = location; bytes = payload }) ∷ [])
-    → Stops status.Memory a b (put_events (record life { heard = Some payload }))
-stored-memory life toi payload location a b t l m =
-    subst (λ (es : List Event). Stops status.Memory a b es) (stored-events life toi payload location _ t l refl) (Stops-after status.Memory a b b _ _ m (Stops-memory b _))
-
-pub stored-printed : {A : Type 0} (life : Life) (toi : ℕ) (payload location text : List ℕ) (a b c : Outputs) (result : Result A Status) → toi ≡ life.toi
-    → location ≡ life.desc.location → text ≡ line.stored toi (length payload) location
-    → Makes a b (Put (record { toi = toi; location = location; bytes = payload }) ∷ []) → Does b c (Line text ∷ []) result
-    → Does a c (put_events (record life { heard = Some payload })) result
-stored-printed life toi payload location text a b c result t l is m d =
-    subst (λ (es : List Event). Does a c es result) (stored-events life toi payload location text t l is) (Does-after a b c _ _ result m d)
 
 -- what a result that stopped says, at the exit that hands it on
 pub Does-stopped : {A : Type 0} (reason answer : Status) (a b : Outputs) (events : List Event) (result : Result A Status)

@@ -1,6 +1,6 @@
 -- How parts that only print join, and the lines of lives.
-use Rattle.std.proofs.Common.{◌≡◌, ℕ, ◌+◌, ◌<◌, ◌&&◌, ◌==◌, not, Bool, true, false, cond, List, [], ◌∷◌, ◌++◌, length, take, drop, get_or, Option, Result, Ok, Err, IsErrAnd, map, filter, flat_map, refl, sym, ap, ◌∙◌, subst, append_assoc, append-nil, arith}
-use Rattle.std.proofs.lemmas.List.{map-append, take-append-drop, take_more}
+use Rattle.std.proofs.Common.{◌≡◌, ℕ, ◌+◌, ◌<◌, ◌&&◌, ◌==◌, not, Bool, true, false, cond, List, [], ◌∷◌, ◌++◌, length, take, drop, get_or, Option, Some, Result, Ok, Err, IsErrAnd, map, filter, flat_map, refl, sym, ap, ◌∙◌, subst, append_assoc, append-nil, arith}
+use Rattle.std.proofs.lemmas.List.{take-append-drop, take_more}
 use Rattle.std.proofs.lemmas.List.Concat.{flat_map-append}
 use Rattle.std.proofs.lemmas.Bool.Decides.{nat_tests}
 use Rattle.std.specs.List.{list_all}
@@ -8,12 +8,11 @@ use Rattle.mb_base.specs.Files.{File}
 use Rattle.mb_base.specs.Status.{Status}
 use Rattle.mb_base.specs.Status.TheVariants as status
 use Rattle.mb_rx.specs.Lines as line
-use Rattle.mb_rx.specs.Receiver as receiver
-use Rattle.mb_rx.specs.ValueView.{life_seen, lives_seen}
-use Rattle.mb_rx.specs.Run.{Event, Line, count_line, incomplete_lines}
+use Rattle.mb_life.specs.Life.{Life, missing}
+use Rattle.mb_machine.specs.declared.happened.Happened.{Happened}
+use Rattle.mb_rx.specs.Run.{Event, Line, happened_events, packet_events, count_line, expired_line, incomplete_lines}
 use Rattle.mb_rx.specs.Receive.{Makes, Stops, outputs}
 use Rattle.mb_rx.specs.Steps.{Prints}
-use Rattle.mb_rx.specs.declared.lives.Life.{Life}
 use Rattle.mb_rx.proofs.Making.{Stops-more, Stops-memory, Does-after}
 
 -- want of memory before any event
@@ -76,18 +75,28 @@ pub Stops-same : (reason : Status) (old : Option (List ℕ)) (before : ℕ) (new
 Stops-same reason old before new after xs ys same p files faults =
     subst (λ (events : List Event). Stops reason (outputs files faults old before) (outputs files faults new after) events) same (p files faults)
 
+-- The line of what a packet did.
+
+pub packet_line : (given : Option Happened) (x of : Happened) → given ≡ Some x → x ≡ of → happened_events of ≡ packet_events given
+packet_line given x of is same = sym (ap packet_events is ∙ ap happened_events same)
+
+-- The line of the lives that ended.
+
+pub expired_line-some : (n : ℕ) → (n ≡ 0 → ⊥) → expired_line n ≡ Line (line.expired n) ∷ []
+expired_line-some n some = ap (λ b. cond b [] (Line (line.expired n) ∷ [])) (not_zero n some)
+
 -- The lines of lives.
 
-pub incomplete_lines-one : (life : receiver.Life) → life.done ≡ false → incomplete_lines (life ∷ []) ≡ Line (line.incomplete life.toi 1) ∷ []
-incomplete_lines-one life is = ap (λ b. map (λ (l : receiver.Life). Line (line.incomplete l.toi 1)) (cond (not b) (life ∷ []) [])) is
+pub incomplete_lines-one : (life : Life) → life.done ≡ false → incomplete_lines (life ∷ []) ≡ Line (line.incomplete life.toi (missing life)) ∷ []
+incomplete_lines-one life is = ap (λ b. map (λ (l : Life). Line (line.incomplete l.toi (missing l))) (cond (not b) (life ∷ []) [])) is
 
-pub incomplete_lines-append : (xs ys : List receiver.Life) → incomplete_lines (xs ++ ys) ≡ incomplete_lines xs ++ incomplete_lines ys
+pub incomplete_lines-append : (xs ys : List Life) → incomplete_lines (xs ++ ys) ≡ incomplete_lines xs ++ incomplete_lines ys
 incomplete_lines-append [] ys = refl
 incomplete_lines-append (x ∷ xs) ys =
-    let first : Event = Line (line.incomplete x.toi 1) in
-    elim (not x.done) as (λ b. map (λ (life : receiver.Life). Line (line.incomplete life.toi 1)) (cond b (x ∷ filter (λ life. not life.done) (xs ++ ys)) (filter (λ life. not life.done) (xs ++ ys)))
-    ≡ map (λ (life : receiver.Life). Line (line.incomplete life.toi 1)) (cond b (x ∷ filter (λ life. not life.done) xs) (filter (λ life. not life.done) xs)) ++ incomplete_lines ys)
-    [ true ↦ ap (λ events. first ∷ events) (incomplete_lines-append xs ys) | false ↦ incomplete_lines-append xs ys ]
+    let text : Life → Event = λ life. Line (line.incomplete life.toi (missing life)) in
+    let open_of : List Life → List Life = filter (λ life. not life.done) in
+    elim (not x.done) as (λ b. map text (cond b (x ∷ open_of (xs ++ ys)) (open_of (xs ++ ys))) ≡ map text (cond b (x ∷ open_of xs) (open_of xs)) ++ incomplete_lines ys)
+    [ true ↦ ap (λ events. text x ∷ events) (incomplete_lines-append xs ys) | false ↦ incomplete_lines-append xs ys ]
 
 list_all-append : {A : Type 0} (test : A → Bool) (xs ys : List A) → list_all test (xs ++ ys) ≡ (list_all test xs && list_all test ys)
 list_all-append test [] ys = refl
@@ -100,32 +109,26 @@ and-true true = refl
 and-true false = refl
 
 -- the lives up to one, and it
-take_life : (lives : List Life) (i : ℕ) (life : Life) → i < length lives → life ≡ get_or lives i life
-    → lives_seen (take (i + 1) lives) ≡ lives_seen (take i lives) ++ (life_seen life ∷ [])
-take_life lives i life below at =
-    ap lives_seen (take_more lives i life below ∙ ap (λ (l : Life). take i lives ++ (l ∷ [])) (sym at))
-    ∙ map-append life_seen (take i lives) (life ∷ [])
+take_life : (lives : List Life) (i : ℕ) (life : Life) → i < length lives → life ≡ get_or lives i life → take (i + 1) lives ≡ take i lives ++ (life ∷ [])
+take_life lives i life below at = take_more lives i life below ∙ ap (λ (l : Life). take i lives ++ (l ∷ [])) (sym at)
 
 pub incomplete_lines-more : (lives : List Life) (i : ℕ) (life : Life) → i < length lives → life ≡ get_or lives i life
-    → incomplete_lines (lives_seen (take (i + 1) lives)) ≡ incomplete_lines (lives_seen (take i lives)) ++ incomplete_lines (life_seen life ∷ [])
+    → incomplete_lines (take (i + 1) lives) ≡ incomplete_lines (take i lives) ++ incomplete_lines (life ∷ [])
 incomplete_lines-more lives i life below at =
-    ap incomplete_lines (take_life lives i life below at) ∙ incomplete_lines-append (lives_seen (take i lives)) (life_seen life ∷ [])
+    ap (λ (ls : List Life). incomplete_lines ls) (take_life lives i life below at) ∙ incomplete_lines-append (take i lives) (life ∷ [])
 
 -- the lines of the lives up to one, its line, and the lines of those behind it
 pub incomplete_lines-at : (lives : List Life) (i : ℕ) (life : Life) → i < length lives → life ≡ get_or lives i life
-    → incomplete_lines (lives_seen (take i lives)) ++ (incomplete_lines (life_seen life ∷ []) ++ incomplete_lines (lives_seen (drop (i + 1) lives)))
-    ≡ incomplete_lines (lives_seen lives)
+    → incomplete_lines (take i lives) ++ (incomplete_lines (life ∷ []) ++ incomplete_lines (drop (i + 1) lives)) ≡ incomplete_lines lives
 incomplete_lines-at lives i life below at =
-    sym (append_assoc (incomplete_lines (lives_seen (take i lives))) (incomplete_lines (life_seen life ∷ [])) (incomplete_lines (lives_seen (drop (i + 1) lives))))
-    ∙ (ap (λ events. events ++ incomplete_lines (lives_seen (drop (i + 1) lives))) (sym (incomplete_lines-more lives i life below at))
-    ∙ (sym (incomplete_lines-append (lives_seen (take (i + 1) lives)) (lives_seen (drop (i + 1) lives)))
-    ∙ ap incomplete_lines (sym (map-append life_seen (take (i + 1) lives) (drop (i + 1) lives)) ∙ ap lives_seen (take-append-drop (i + 1) lives))))
+    sym (append_assoc (incomplete_lines (take i lives)) (incomplete_lines (life ∷ [])) (incomplete_lines (drop (i + 1) lives)))
+    ∙ (ap (λ events. events ++ incomplete_lines (drop (i + 1) lives)) (sym (incomplete_lines-more lives i life below at))
+    ∙ (sym (incomplete_lines-append (take (i + 1) lives) (drop (i + 1) lives))
+    ∙ ap (λ (ls : List Life). incomplete_lines ls) (take-append-drop (i + 1) lives)))
 
 pub all_done-more : (lives : List Life) (i : ℕ) (life : Life) → i < length lives → life ≡ get_or lives i life
-    → list_all (λ (l : receiver.Life). l.done) (lives_seen (take (i + 1) lives))
-    ≡ (list_all (λ (l : receiver.Life). l.done) (lives_seen (take i lives)) && life.done)
+    → list_all (λ (l : Life). l.done) (take (i + 1) lives) ≡ (list_all (λ (l : Life). l.done) (take i lives) && life.done)
 all_done-more lives i life below at =
-    let done : receiver.Life → Bool = λ l. l.done in
+    let done : Life → Bool = λ l. l.done in
     ap (list_all done) (take_life lives i life below at)
-    ∙ (list_all-append done (lives_seen (take i lives)) (life_seen life ∷ [])
-    ∙ ap (λ b. list_all done (lives_seen (take i lives)) && b) (and-true life.done))
+    ∙ (list_all-append done (take i lives) (life ∷ []) ∙ ap (λ b. list_all done (take i lives) && b) (and-true life.done))

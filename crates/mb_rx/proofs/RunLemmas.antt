@@ -25,39 +25,39 @@ use Rattle.mb_rx.proofs.Honest.{honest_puts}
 use Rattle.mb_rx.proofs.Ready.{each_ready_is_put}
 
 -- a session is what its records make of a fresh receiver
-pub session-is : (tsi : ℕ) (records : List Record) → session tsi records ≡ after_records tsi fresh records
+pub session-is : (tsi : ℕ) (records : List Record) → session tsi records ≡ after_records (fresh tsi) records
 unfolding session
 session-is tsi records = refl
 
 -- the events of a session that goes on, ended, or broke
-events_by-none : (words : RxWords) (records : List Record) → (after_records words.tsi fresh records).events ≡ events_by words records None
+events_by-none : (words : RxWords) (records : List Record) → (after_records (fresh words.tsi) records).events ≡ events_by words records None
 events_by-none words records = ap (λ (s : Session). s.events) (sym (session-is words.tsi records)) ∙ sym (append-nil (session words.tsi records).events)
 
 events_by-ended : (words : RxWords) (records : List Record) (cause : Cause)
-    → (after_records words.tsi fresh records).events ++ end_events (known_of words records (Some cause)) (after_records words.tsi fresh records).receiver (Some cause)
+    → (after_records (fresh words.tsi) records).events ++ end_events (known_of words records (Some cause)) (after_records (fresh words.tsi) records).receiver (Some cause)
     ≡ events_by words records (Some (EndsBy cause))
 events_by-ended words records cause =
     ap (λ (s : Session). s.events ++ end_events (known_of words records (Some cause)) s.receiver (Some cause)) (sym (session-is words.tsi records))
 
 events_by-broken : (words : RxWords) (records : List Record) (place : ℕ)
-    → (after_records words.tsi fresh records).events ++ Line (program.broken place) ∷ [] ≡ events_by words records (Some (BreaksAt place))
+    → (after_records (fresh words.tsi) records).events ++ Line (program.broken place) ∷ [] ≡ events_by words records (Some (BreaksAt place))
 events_by-broken words records place = ap (λ (es : List Event). es ++ Line (program.broken place) ∷ []) (events_by-none words records)
 
 -- whether the sender closed the session, by what its records make of a fresh receiver
-closed-is : (words : RxWords) (records : List Record) → is_closed words records ≡ (after_records words.tsi fresh records).receiver.closed
-closed-is words records = ap (λ (s : Session). s.receiver.closed) (session-is words.tsi records)
+closed-is : (words : RxWords) (records : List Record) → is_closed words records ≡ (after_records (fresh words.tsi) records).receiver.table.closed
+closed-is words records = ap (λ (s : Session). s.receiver.table.closed) (session-is words.tsi records)
 
-closes-as : (words : RxWords) (records : List Record) (ending : Option Ending) → ClosesBy ending (after_records words.tsi fresh records).receiver.closed
+closes-as : (words : RxWords) (records : List Record) (ending : Option Ending) → ClosesBy ending (after_records (fresh words.tsi) records).receiver.table.closed
     → ClosesBy ending (is_closed words records)
 closes-as words records ending p = subst (ClosesBy ending) (sym (closed-is words records)) p
 
-taken_open : (words : RxWords) (records : List Record) → TakenOpen words.tsi fresh records → TakesWhileOpen words records
+taken_open : (words : RxWords) (records : List Record) → TakenOpen (fresh words.tsi) records → TakesWhileOpen words records
 taken_open words records still before after heard split =
-    closed-is words before ∙ TakenOpen-split words.tsi fresh before after heard (subst (TakenOpen words.tsi fresh) split still)
+    closed-is words before ∙ TakenOpen-split (fresh words.tsi) before after heard (subst (TakenOpen (fresh words.tsi)) split still)
 
 -- a run, from what it left: the laws of honest datagrams and of ready files hold of every run
 run_of : (words : RxWords) (a b : Option Broadcast) (x y : Outputs) (result : Status) (records : List Record) (ending : Option Ending)
-    → Becomes a b (Takes records) → length records ≤ datagrams_most → AreInTime words records → TakenOpen words.tsi fresh records → ClosesBy ending (is_closed words records)
+    → Becomes a b (Takes records) → length records ≤ datagrams_most → AreInTime words records → TakenOpen (fresh words.tsi) records → ClosesBy ending (is_closed words records)
     → Becomes a b (λ _ air. IsEnding words records ending air)
     → Leaves result words records ending x y → IsRun words a b x y result
 run_of words a b x y result records ending taken within in_time still closes ends left = record {
@@ -105,7 +105,7 @@ finishes false words records cause x z made lives = record { ended = tt; all = m
 
 -- listening handed on a status
 pub run-unheard : (words : RxWords) (a b : Option Broadcast) (new : Receiver) (x y : Outputs) (reason answer : Status) (result : Result Status Status)
-    → result ≡ Err answer → answer ≡ reason → Listens words a b fresh new x y (Err reason) → Runs words a b x y result
+    → result ≡ Err answer → answer ≡ reason → Listens words a b (fresh words.tsi) new x y (Err reason) → Runs words a b x y result
 run-unheard words a b new x y reason answer result is same l =
     subst (λ (r : Result Status Status). Runs words a b x y r) (sym (is ∙ ap Err same))
     (run_of words a b x y reason l.records None l.taken l.within l.in_time l.while_open tt (goes_on words l.records a b l.taken)
@@ -113,32 +113,32 @@ run-unheard words a b new x y reason answer result is same l =
 
 -- the session ended, and its last lines were printed, or a status stopped them
 pub run-ended : (words : RxWords) (a b : Option Broadcast) (new : Receiver) (x y z : Outputs) (listened : Listened) (cause : Cause) (all : Bool) (result : Status)
-    → listened.ending ≡ EndsBy cause → Listens words a b fresh new x y (Ok listened)
+    → listened.ending ≡ EndsBy cause → Listens words a b (fresh words.tsi) new x y (Ok listened)
     → ((records : List Record) → length records ≡ listened.datagrams → Makes y z (end_events (known_of words records (Some cause)) new (Some cause)))
-    → all ≡ list_all (λ life. life.done) new.lives → result ≡ cond all status.Done status.Incomplete → IsRun words a b x z result
+    → all ≡ list_all (λ life. life.done) new.table.lives → result ≡ cond all status.Done status.Incomplete → IsRun words a b x z result
 run-ended words a b new x y z listened cause all result by l printed complete is =
     let records = l.records in
-    let heard = (after_records words.tsi fresh records).receiver in
+    let heard = (after_records (fresh words.tsi) records).receiver in
     let closes : ClosesBy (Some (EndsBy cause)) (is_closed words records) =
-    closes-as words records (Some (EndsBy cause)) (subst (λ (e : Ending). ClosesBy (Some e) (after_records words.tsi fresh records).receiver.closed) by l.heard.2) in
+    closes-as words records (Some (EndsBy cause)) (subst (λ (e : Ending). ClosesBy (Some e) (after_records (fresh words.tsi) records).receiver.table.closed) by l.heard.2) in
     let ended : Becomes a b (λ _ air. IsEnding words records (Some (EndsBy cause)) air) =
     subst (λ (e : Ending). Becomes a b (λ _ air. IsEnding words records (Some e) air)) by l.heard.3 in
     let made : Makes x z (events_by words records (Some (EndsBy cause))) =
     subst (λ (es : List Event). Makes x z es) (events_by-ended words records cause)
     (Makes-trans x y z _ _ l.played (subst (λ (r : Receiver). Makes y z (end_events (known_of words records (Some cause)) r (Some cause))) l.heard.0 (printed records (sym l.heard.1)))) in
     let lives : is_complete (session words.tsi records) ≡ all =
-    ap (λ (s : Session). is_complete s) (session-is words.tsi records) ∙ (ap (λ (r : Receiver). list_all (λ life. life.done) r.lives) (sym l.heard.0) ∙ sym complete) in
+    ap (λ (s : Session). is_complete s) (session-is words.tsi records) ∙ (ap (λ (r : Receiver). list_all (λ life. life.done) r.table.lives) (sym l.heard.0) ∙ sym complete) in
     subst (λ (s : Status). IsRun words a b x z s) (sym is)
     (run_of words a b x z (cond all status.Done status.Incomplete) records (Some (EndsBy cause)) l.taken l.within l.in_time l.while_open closes ended (finishes all words records cause x z made lives))
 
 pub run-unended : (words : RxWords) (a b : Option Broadcast) (new : Receiver) (x y z : Outputs) (listened : Listened) (cause : Cause) (reason answer : Status) (result : Result Status Status)
-    → listened.ending ≡ EndsBy cause → Listens words a b fresh new x y (Ok listened)
+    → listened.ending ≡ EndsBy cause → Listens words a b (fresh words.tsi) new x y (Ok listened)
     → ((records : List Record) → length records ≡ listened.datagrams → Stops reason y z (end_events (known_of words records (Some cause)) new (Some cause)))
     → result ≡ Err answer → answer ≡ reason → Runs words a b x z result
 run-unended words a b new x y z listened cause reason answer result by l printed is same =
     let records = l.records in
     let closes : ClosesBy (Some (EndsBy cause)) (is_closed words records) =
-    closes-as words records (Some (EndsBy cause)) (subst (λ (e : Ending). ClosesBy (Some e) (after_records words.tsi fresh records).receiver.closed) by l.heard.2) in
+    closes-as words records (Some (EndsBy cause)) (subst (λ (e : Ending). ClosesBy (Some e) (after_records (fresh words.tsi) records).receiver.table.closed) by l.heard.2) in
     let ended : Becomes a b (λ _ air. IsEnding words records (Some (EndsBy cause)) air) =
     subst (λ (e : Ending). Becomes a b (λ _ air. IsEnding words records (Some e) air)) by l.heard.3 in
     let stopped : Stops reason x z (events_by words records (Some (EndsBy cause))) =
@@ -149,12 +149,12 @@ run-unended words a b new x y z listened cause reason answer result by l printed
 
 -- the trace broke, and the line that says so was printed, or a status stopped it
 pub run-broken : (words : RxWords) (a b : Option Broadcast) (new : Receiver) (x y z : Outputs) (listened : Listened) (place : ℕ)
-    → listened.ending ≡ BreaksAt place → Listens words a b fresh new x y (Ok listened) → Makes y z (Line (program.broken place) ∷ [])
+    → listened.ending ≡ BreaksAt place → Listens words a b (fresh words.tsi) new x y (Ok listened) → Makes y z (Line (program.broken place) ∷ [])
     → IsRun words a b x z status.TraceBroken
 run-broken words a b new x y z listened place by l printed =
     let records = l.records in
     let closes : ClosesBy (Some (BreaksAt place)) (is_closed words records) =
-    closes-as words records (Some (BreaksAt place)) (subst (λ (e : Ending). ClosesBy (Some e) (after_records words.tsi fresh records).receiver.closed) by l.heard.2) in
+    closes-as words records (Some (BreaksAt place)) (subst (λ (e : Ending). ClosesBy (Some e) (after_records (fresh words.tsi) records).receiver.table.closed) by l.heard.2) in
     let broke : Becomes a b (λ _ air. IsEnding words records (Some (BreaksAt place)) air) =
     subst (λ (e : Ending). Becomes a b (λ _ air. IsEnding words records (Some e) air)) by l.heard.3 in
     let made : Makes x z (events_by words records (Some (BreaksAt place))) =
@@ -162,12 +162,12 @@ run-broken words a b new x y z listened place by l printed =
     run_of words a b x z status.TraceBroken records (Some (BreaksAt place)) l.taken l.within l.in_time l.while_open closes broke (tt, made)
 
 pub run-unbroken : (words : RxWords) (a b : Option Broadcast) (new : Receiver) (x y z : Outputs) (listened : Listened) (place : ℕ) (reason answer : Status) (result : Result Status Status)
-    → listened.ending ≡ BreaksAt place → Listens words a b fresh new x y (Ok listened) → Stops reason y z (Line (program.broken place) ∷ [])
+    → listened.ending ≡ BreaksAt place → Listens words a b (fresh words.tsi) new x y (Ok listened) → Stops reason y z (Line (program.broken place) ∷ [])
     → result ≡ Err answer → answer ≡ reason → Runs words a b x z result
 run-unbroken words a b new x y z listened place reason answer result by l stopped is same =
     let records = l.records in
     let closes : ClosesBy (Some (BreaksAt place)) (is_closed words records) =
-    closes-as words records (Some (BreaksAt place)) (subst (λ (e : Ending). ClosesBy (Some e) (after_records words.tsi fresh records).receiver.closed) by l.heard.2) in
+    closes-as words records (Some (BreaksAt place)) (subst (λ (e : Ending). ClosesBy (Some e) (after_records (fresh words.tsi) records).receiver.table.closed) by l.heard.2) in
     let broke : Becomes a b (λ _ air. IsEnding words records (Some (BreaksAt place)) air) =
     subst (λ (e : Ending). Becomes a b (λ _ air. IsEnding words records (Some e) air)) by l.heard.3 in
     let stop : Stops reason x z (events_by words records (Some (BreaksAt place))) =
@@ -175,8 +175,8 @@ run-unbroken words a b new x y z listened place reason answer result by l stoppe
     subst (λ (r : Result Status Status). Runs words a b x z r) (sym (is ∙ ap Err same))
     (run_of words a b x z reason records (Some (BreaksAt place)) l.taken l.within l.in_time l.while_open closes broke (Leaves-stopped reason words records (Some (BreaksAt place)) x z stop))
 
-pub from_fresh : (words : RxWords) (a b : Option Broadcast) (old new : Receiver) (x y : Outputs) (result : Result Listened Status) → old ≡ fresh
-    → Listens words a b old new x y result → Listens words a b fresh new x y result
+pub from_fresh : (words : RxWords) (a b : Option Broadcast) (old new : Receiver) (x y : Outputs) (result : Result Listened Status) → old ≡ fresh words.tsi
+    → Listens words a b old new x y result → Listens words a b (fresh words.tsi) new x y result
 from_fresh words a b old new x y result e l = subst (λ (r : Receiver). Listens words a b r new x y result) e l
 
 -- the air never stops a store or a sink
@@ -230,6 +230,11 @@ refused_words words air x y result none refused =
 pub no_memory : (words : Option RxWords) (air : Option Broadcast) (x : Outputs) → Receives words air air x x status.Memory
 no_memory None air x = (Stays-same air, Stops-memory x _)
 no_memory (Some words) air x = run_of words air air x x status.Memory [] None (Takes-none air) (omega arith) tt tt tt (goes_on words [] air air (Takes-none air)) (Stops-memory x _)
+
+-- want of memory before anything was heard
+pub run-unmade : (words : RxWords) (air : Option Broadcast) (x : Outputs) (answer : Status) (result : Result Status Status)
+    → result ≡ Err answer → answer ≡ status.Memory → Runs words air air x x result
+run-unmade words air x answer result is same = subst (λ (r : Result Status Status). Runs words air air x x r) (sym (is ∙ ap Err same)) (no_memory (Some words) air x)
 
 -- the faults of a run
 pub run_of_store : (words : RxWords) (a b : Option Broadcast) (x y : Outputs) (result : Status) → result ≡ status.StoreFault → IsRun words a b x y result → Rose x.store_faults y.store_faults

@@ -1,12 +1,10 @@
 pub mod Words
-pub mod Form
 pub mod Receiver
 pub mod Lines
 pub mod Run
-pub mod SentSet
 pub mod Receive
+pub mod Taking
 pub mod ValueView
 pub mod Steps
-pub mod Heard
 pub mod Listening
 pub mod RunResult

@@ -19,13 +19,13 @@ Plays before after events (Err status.AirFault) = Makes before after events
 Plays before after events (Err reason) = Stops reason before after events
 
 -- what the records make of a receiver
-abbrev pub after_records : ℕ → Receiver → List Record → Session
-after_records tsi r records = fold (after_record tsi) (record { receiver = r; events = [] }) records
+abbrev pub after_records : Receiver → List Record → Session
+after_records r records = fold after_record (record { receiver = r; events = [] }) records
 
 -- Each record was taken while the session was open.
-abbrev pub TakenOpen : ℕ → Receiver → List Record → Type 0
-TakenOpen tsi r [] = ⊤
-TakenOpen tsi r (heard ∷ records) = (r.closed ≡ false) × TakenOpen tsi (after_records tsi r (heard ∷ [])).receiver records
+abbrev pub TakenOpen : Receiver → List Record → Type 0
+TakenOpen r [] = ⊤
+TakenOpen r (heard ∷ records) = (r.table.closed ≡ false) × TakenOpen (after_records r (heard ∷ [])).receiver records
 
 -- The air is asked while the session is open alone.
 abbrev pub AsksOpen : Bool → Result (Option Ending) Status → Type 0
@@ -51,15 +51,15 @@ pub record Hears (words : RxWords) (air_before air_after : Option Broadcast) (ol
   pub taken : Becomes air_before air_after (Takes records)
   pub one : length records ≤ 1
   pub in_time : AreInTime words records
-  pub asked : AsksOpen old.closed result
-  pub failed : FailsOpen (after_records words.tsi old records).receiver.closed result
-  pub heard : IsNext words records air_before air_after (after_records words.tsi old records).receiver new result
-  pub played : Plays before after (after_records words.tsi old records).events result
+  pub asked : AsksOpen old.table.closed result
+  pub failed : FailsOpen (after_records old records).receiver.table.closed result
+  pub heard : IsNext words records air_before air_after (after_records old records).receiver new result
+  pub played : Plays before after (after_records old records).events result
 
 -- How listening ended: every datagram that came was heard.
 abbrev pub IsListened : RxWords → List Record → Option Broadcast → Option Broadcast → Receiver → Receiver → Result Listened Status → Type 0
 IsListened words records air_before air_after expected new (Ok listened) = (new ≡ expected) × (listened.datagrams ≡ length records)
-    × ClosesBy (Some listened.ending) expected.closed × Becomes air_before air_after (λ _ air. IsEnding words records (Some listened.ending) air)
+    × ClosesBy (Some listened.ending) expected.table.closed × Becomes air_before air_after (λ _ air. IsEnding words records (Some listened.ending) air)
 IsListened words records air_before air_after expected new (Err reason) = ⊤
 
 pub record Listens (words : RxWords) (air_before air_after : Option Broadcast) (old new : Receiver) (before after : Outputs)
@@ -68,10 +68,10 @@ pub record Listens (words : RxWords) (air_before air_after : Option Broadcast) (
   pub taken : Becomes air_before air_after (Takes records)
   pub within : length records ≤ datagrams_most
   pub in_time : AreInTime words records
-  pub while_open : TakenOpen words.tsi old records
-  pub failed : FailsOpen (after_records words.tsi old records).receiver.closed result
-  pub heard : IsListened words records air_before air_after (after_records words.tsi old records).receiver new result
-  pub played : Plays before after (after_records words.tsi old records).events result
+  pub while_open : TakenOpen old records
+  pub failed : FailsOpen (after_records old records).receiver.table.closed result
+  pub heard : IsListened words records air_before air_after (after_records old records).receiver new result
+  pub played : Plays before after (after_records old records).events result
 
 -- so many datagrams were taken, at most, and each was heard
 pub record IsHeardSoFar (words : RxWords) (datagrams : ℕ) (air_before air_after : Option Broadcast) (old new : Receiver) (before after : Outputs) : Type 0 where
@@ -79,6 +79,6 @@ pub record IsHeardSoFar (words : RxWords) (datagrams : ℕ) (air_before air_afte
   pub taken : Becomes air_before air_after (Takes records)
   pub number : length records ≡ datagrams
   pub in_time : AreInTime words records
-  pub while_open : TakenOpen words.tsi old records
-  pub heard : new ≡ (after_records words.tsi old records).receiver
-  pub made : Makes before after (after_records words.tsi old records).events
+  pub while_open : TakenOpen old records
+  pub heard : new ≡ (after_records old records).receiver
+  pub made : Makes before after (after_records old records).events

@@ -12,9 +12,12 @@ use Rattle.mb_rx.specs.declared.cause.Ending.{Ending}
 use Rattle.mb_rx.specs.declared.cause.Ending.TheVariants.{EndsBy, BreaksAt}
 use Rattle.mb_rx.specs.declared.words.RxWords.{RxWords}
 use Rattle.mb_program.specs.Lines as program
-use Rattle.mb_rx.specs.Receiver.{Life, step, is_ready}
-use Rattle.mb_rx.specs.Run.{Event, Put, Line, Ask, Known, session, events_of, is_complete, file_of}
-use Rattle.mb_rx.specs.SentSet.{SentSet, IsHonest, IsSentFile}
+use Rattle.mb_alc.specs.Packet.{Packet, packet_of}
+use Rattle.mb_life.specs.Life.{Life, is_ready, is_damaged}
+use Rattle.mb_machine.specs.Laws.{file_of}
+use Rattle.mb_machine.specs.SentSet.{SentSet, IsHonestPacket, IsSentFile}
+use Rattle.mb_rx.specs.Receiver.{step}
+use Rattle.mb_rx.specs.Run.{Event, Put, Line, Ask, Known, session, events_of, is_complete}
 
 -- What events leave in the store and the sink.
 
@@ -104,7 +107,7 @@ IsEnding words records (Some (BreaksAt place)) air = IsOver (Some place) air
 
 -- the sender closed the session with these records
 abbrev pub is_closed : RxWords → List Record → Bool
-is_closed words records = (session words.tsi records).receiver.closed
+is_closed words records = (session words.tsi records).receiver.table.closed
 
 -- A session that the sender closed has ended so, and no other has.
 abbrev pub ClosesBy : Option Ending → Bool → Type 0
@@ -161,12 +164,21 @@ Leaves status.OutFault words records ending before after = Stops status.OutFault
 Leaves status.Memory words records ending before after = Stops status.Memory before after (events_by words records ending)
 Leaves _ words records ending before after = ⊥
 
--- each life that became ready, after whichever record, has its file put
+-- each packet of the session is honest; what is no packet, or of another session, is free
+abbrev pub IsHonest : SentSet → ℕ → List Record → Type 0
+IsHonest sent tsi records = AllByRecursion (λ heard. (p : Packet) → packet_of heard.bytes ≡ Ok p → p.lct.tsi ≡ tsi → IsHonestPacket sent p) records
+
+-- each life that became ready, after whichever record, has its file put, unless that is damaged
 abbrev pub PutsEachReady : ℕ → List Record → List File → Type 0
 PutsEachReady tsi records puts = (before after : List Record) (heard : Record) (life : Life)
     → records ≡ before ++ heard ∷ after
-    → Contains (step tsi (session tsi before).receiver heard).receiver.lives life → is_ready life ≡ true
+    → Contains (step (session tsi before).receiver heard).receiver.table.lives life → is_ready life ≡ true → is_damaged life ≡ false
     → Contains puts (file_of life)
+
+-- no life that became ready, after whichever record, is damaged
+abbrev pub IsNeverDamaged : ℕ → List Record → Type 0
+IsNeverDamaged tsi records = (before after : List Record) (heard : Record) (life : Life) → records ≡ before ++ heard ∷ after
+    → Contains (step (session tsi before).receiver heard).receiver.table.lives life → is_ready life ≡ true → is_damaged life ≡ false
 
 -- The run of good words. It stands on the records that were taken, which are those that the air told of.
 pub record IsRun (words : RxWords) (air_before air_after : Option Broadcast) (before after : Outputs) (result : Status) : Type 0 where
@@ -180,8 +192,9 @@ pub record IsRun (words : RxWords) (air_before air_after : Option Broadcast) (be
   pub closes : ClosesBy ending (is_closed words records)
   pub ends : Becomes air_before air_after (λ _ air. IsEnding words records ending air)
   pub left : Leaves result words records ending before after
-  -- where the datagrams are honest, what is put is what was sent
-  pub honest : (sent : SentSet) → IsHonest sent words.tsi records → AllByRecursion (IsSentFile sent) (puts_in (events_by words records ending))
+  -- where the datagrams are honest, what is put is what was sent, and no life is damaged
+  pub honest : (sent : SentSet) → IsHonest sent words.tsi records
+      → AllByRecursion (IsSentFile sent) (puts_in (events_by words records ending)) × IsNeverDamaged words.tsi records
   -- every file that was determined is put
   pub ready : PutsEachReady words.tsi records (puts_in (events_by words records ending))
 

@@ -1,17 +1,21 @@
 -- A whole run of the receiver: the events that it has made, from what is known so far.
-use Rattle.std.specs.Prelude.{◌≡◌, ℕ, ◌==◌, Bool, not, List, [], ◌∷◌, ◌++◌, length, map, fold, filter, flat_map, Option, Some, None, if◌then◌else◌}
+use Rattle.std.specs.Prelude.{◌≡◌, ℕ, ◌==◌, Bool, not, List, [], ◌∷◌, ◌++◌, length, map, fold, filter, flat_map, Option, Some, None, unwrap_or, if◌then◌else◌}
 use Rattle.std.specs.List.{list_all}
 use Rattle.mb_base.specs.Files.{File}
 use Rattle.mb_base.specs.Broadcast.{Record}
-use Rattle.mb_rx.specs.Receiver.{Receiver, TextOutcome, Instance, BadInstance, Stepped, Life, fresh, step, is_ready, bytes_of, handed_out}
+use Rattle.md5.specs.Md5.{md5}
+use Rattle.mb_life.specs.Life.{Life, is_ready, is_damaged, bytes_of, missing}
+use Rattle.mb_machine.specs.Laws.{file_of, with_hand_outs}
+use Rattle.mb_machine.specs.Counts.{reasons, drop_count}
+use Rattle.mb_machine.specs.declared.reason.Reason.{Reason}
+use Rattle.mb_machine.specs.declared.happened.Happened.{Happened}
+use Rattle.mb_machine.specs.declared.happened.Happened.TheVariants.{Dropped, Part, Instance, BadInstance, LateInstance, Heard}
+use Rattle.mb_rx.specs.Receiver.{Receiver, Stepped, fresh, step}
 use Rattle.mb_rx.specs.Lines as line
 use Rattle.mb_alc.specs.Words.{kind_word, kinds}
 use Rattle.mb_alc.specs.declared.fault.FaultKind.{FaultKind}
 use Rattle.mb_alc.specs.declared.fault.FaultKind.TheVariants as kind
 use Rattle.mb_rx.specs.declared.faults.Faults.{Faults}
-use Rattle.mb_rx.specs.declared.drops.Drops.{Drops}
-use Rattle.mb_rx.specs.declared.drops.Reason.{Reason}
-use Rattle.mb_rx.specs.declared.drops.Reason.TheVariants as reason
 use Rattle.mb_rx.specs.declared.cause.Cause.{Cause}
 use Rattle.mb_rx.specs.declared.cause.Cause.TheVariants.{Quiet, Ended, Closed, Limit}
 use Rattle.mb_rx.specs.declared.words.RxWords.{RxWords}
@@ -49,43 +53,54 @@ pub record Session : Type 0 where
   pub receiver : Receiver
   pub events : List Event
 
-abbrev pub text_events : Option TextOutcome → List Event
-text_events None = []
-text_events (Some (Instance id report)) = Line (line.instance id report) ∷ []
-text_events (Some (BadInstance id fault)) = Line (line.bad_instance id fault) ∷ []
+-- what a packet did, where a line says so
+abbrev pub happened_events : Happened → List Event
+happened_events (Dropped why) = []
+happened_events (Part id) = []
+happened_events (Instance id report) = Line (line.instance id report) ∷ []
+happened_events (BadInstance id fault) = Line (line.bad_instance id fault) ∷ []
+happened_events (LateInstance id) = Line (line.late_instance id) ∷ []
+happened_events (Heard toi sbn kept determined) = []
 
--- the file of a ready life, at its description's location
-abbrev pub file_of : Life → File
-file_of life = record { toi = life.toi; location = life.desc.location; bytes = bytes_of life }
+abbrev pub packet_events : Option Happened → List Event
+packet_events None = []
+packet_events (Some happened) = happened_events happened
 
+-- the file of a ready life, or both digests where it is damaged
 abbrev pub put_events : Life → List Event
 put_events life = Put (file_of life) ∷ Line (line.stored life.toi (length (bytes_of life)) life.desc.location) ∷ []
 
+abbrev pub damaged_events : Life → List Event
+damaged_events life = Line (line.damaged life.toi (unwrap_or life.desc.md5 []) (md5 (bytes_of life))) ∷ []
+
+abbrev pub taken_events : Life → List Event
+taken_events life = if is_damaged life then damaged_events life else put_events life
+
 -- the ready lives are handed out, in order
 abbrev pub hand_out_events : List Life → List Event
-hand_out_events lives = flat_map put_events (filter is_ready lives)
+hand_out_events lives = flat_map taken_events (filter is_ready lives)
 
 abbrev pub after_step : List Event → Stepped → Session
 after_step events s = record {
-  receiver = record s.receiver { lives = map handed_out s.receiver.lives };
-  events = events ++ (text_events s.text ++ hand_out_events s.receiver.lives);
+  receiver = record s.receiver { table = with_hand_outs s.receiver.table };
+  events = events ++ (packet_events s.happened ++ hand_out_events s.receiver.table.lives);
 }
 
-abbrev pub after_record : ℕ → Session → Record → Session
-after_record tsi s heard = after_step s.events (step tsi s.receiver heard)
+abbrev pub after_record : Session → Record → Session
+after_record s heard = after_step s.events (step s.receiver heard)
 
 -- what the records make of a receiver that has heard nothing
 unfoldable pub session : ℕ → List Record → Session
-session tsi records = fold (after_record tsi) (record { receiver = fresh; events = [] }) records
+session tsi records = fold after_record (record { receiver = fresh tsi; events = [] }) records
 
 -- The session's end.
 
 -- the moment at which the session ended
 abbrev pub end_moment : RxWords → Cause → Receiver → ℕ
 end_moment words Quiet r = words.until
-end_moment words Ended r = r.clock
-end_moment words Closed r = r.clock
-end_moment words Limit r = r.clock
+end_moment words Ended r = r.table.clock
+end_moment words Closed r = r.table.clock
+end_moment words Limit r = r.table.clock
 
 abbrev pub count_line : List ℕ → ℕ → List Event
 count_line word n = if n == 0 then [] else Line (line.dropped word n) ∷ []
@@ -103,36 +118,26 @@ fault_count f kind.FluteVersion = f.flute_version
 fault_count f kind.CodePoint = f.code_point
 fault_count f kind.NoPayloadId = f.no_payload_id
 
--- how many packets were dropped for a reason
-abbrev pub drop_count : Drops → Reason → ℕ
-drop_count d reason.Closed = d.closed
-drop_count d reason.OtherSession = d.other_session
-drop_count d reason.NoToi = d.no_toi
-drop_count d reason.NoBody = d.no_body
-drop_count d reason.Unknown = d.unknown
-drop_count d reason.Done = d.done
-drop_count d reason.NotBuilt = d.not_built
-
--- the reasons, in the order in which they are printed
-abbrev pub reasons : List Reason
-reasons = reason.Closed ∷ reason.OtherSession ∷ reason.NoToi ∷ reason.NoBody ∷ reason.Unknown ∷ reason.Done ∷ reason.NotBuilt ∷ []
-
 -- one line for each kind of fault and each reason for which datagrams were dropped, in their order
 abbrev pub fault_lines : Faults → List FaultKind → List Event
 fault_lines f kinds = flat_map (λ k. count_line (kind_word k) (fault_count f k)) kinds
 
-abbrev pub drop_lines : Drops → List Reason → List Event
+abbrev pub drop_lines : List ℕ → List Reason → List Event
 drop_lines d reasons = flat_map (λ r. count_line (line.reason_word r) (drop_count d r)) reasons
 
 -- each life that wasn't handed out, with the number of its missing symbols
 abbrev pub incomplete_lines : List Life → List Event
-incomplete_lines lives = map (λ life. Line (line.incomplete life.toi 1)) (filter (λ life. not life.done) lives)
+incomplete_lines lives = map (λ life. Line (line.incomplete life.toi (missing life))) (filter (λ life. not life.done) lives)
+
+-- how many lives ended that weren't handed out, where some did
+abbrev pub expired_line : ℕ → List Event
+expired_line n = if n == 0 then [] else Line (line.expired n) ∷ []
 
 abbrev pub end_events : Known → Receiver → Option Cause → List Event
 end_events known r None = []
 end_events known r (Some cause) =
     Line (line.end cause (end_moment known.words cause r) (length known.records))
-    ∷ fault_lines r.faults kinds ++ (drop_lines r.drops reasons ++ incomplete_lines r.lives)
+    ∷ expired_line r.table.expired ++ (fault_lines r.faults kinds ++ (drop_lines r.drops reasons ++ incomplete_lines r.table.lives))
 
 -- the events that a run has made by then
 abbrev pub events_of : Known → List Event
@@ -141,7 +146,7 @@ events_of known = let s = session known.words.tsi known.records in
 
 -- every life was handed out
 abbrev pub is_complete : Session → Bool
-is_complete s = list_all (λ life. life.done) s.receiver.lives
+is_complete s = list_all (λ life. life.done) s.receiver.table.lives
 
 -- What is known grows: more records until the session has ended, and then more words drawn and answers.
 pub record Extends (known more : Known) : Type 0 where

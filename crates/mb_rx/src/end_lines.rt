@@ -3,20 +3,21 @@ ghost use Rattle.std.specs.List.{list_all};
 ghost use Rattle.mb_base.specs.Broadcast.{Record};
 ghost use Rattle.mb_alc.specs.Words.{kinds};
 ghost use Rattle.mb_rx.specs.Receive.{known_of};
-ghost use Rattle.mb_rx.specs.Run.{count_line, fault_lines, drop_lines, reasons, end_events, end_moment, incomplete_lines};
-ghost use Rattle.mb_rx.specs.ValueView.{life_seen, lives_seen};
+ghost use Rattle.mb_machine.specs.Counts.{reasons};
+ghost use Rattle.mb_rx.specs.Run.{count_line, expired_line, fault_lines, drop_lines, end_events, end_moment, incomplete_lines};
+ghost use Rattle.mb_rx.specs.ValueView.{seen};
 ghost use Rattle.mb_rx.specs.Steps.{Prints};
 
 use crate::cause::Cause;
-use crate::drops::{Drops, Reason};
 use crate::events::print;
 use crate::faults::Faults;
-use crate::lines::{dropped_line, end_line, incomplete_line};
-use crate::lives::Life;
-use crate::table::Table;
+use crate::lines::{dropped_line, end_line, expired_line, incomplete_line, reason_word};
+use crate::receiver::Receiver;
 use crate::words::RxWords;
 use mb_alc::FaultKind;
 use mb_base::{Sink, Status};
+use mb_life::Life;
+use mb_machine::{Drops, Reason};
 use std::alloc::Global;
 
 /// Prints how many datagrams were dropped for the reason of a word, if any were.
@@ -58,46 +59,58 @@ fn print_drops<O: Sink>(
     ensures same { O.made out.new ≡ O.made out.old }
 {
     for reason in reasons {
-        print_count(alloc, out, reason.word(), drops.count(*reason))?;
+        print_count(alloc, out, reason_word(*reason), drops.count(*reason))?;
     }
     Ok(())
+}
+
+/// Prints how many lives ended that were not handed out, if any did.
+fn print_expired<O: Sink>(alloc: Global, out: &mut O, n: u64) -> Result<(), Status>
+    ensures printed { Prints (O.written out.old) (O.faults out.old) (O.written out.new) (O.faults out.new) (expired_line n) result }
+    ensures same { O.made out.new ≡ O.made out.old }
+{
+    if n == 0 {
+        return Ok(());
+    }
+    let line = expired_line(alloc, n)?;
+    print(out, line.as_str())
 }
 
 /// Prints a life, unless it was handed out.
 fn print_life<O: Sink>(alloc: Global, out: &mut O, life: &Life) -> Result<(), Status>
     ensures printed { Prints (O.written out.old) (O.faults out.old) (O.written out.new) (O.faults out.new)
-        (incomplete_lines (life_seen life.now ∷ [])) result }
+        (incomplete_lines (life.now ∷ [])) result }
     ensures same { O.made out.new ≡ O.made out.old }
 {
-    if life.done {
+    if life.is_done() {
         return Ok(());
     }
-    let line = incomplete_line(alloc, life.toi.number(), 1)?;
+    let line = incomplete_line(alloc, life.toi(), life.missing())?;
     print(out, line.as_str())
 }
 
 /// Prints each life that was not handed out, and answers whether there is none.
 pub fn print_incomplete<O: Sink>(alloc: Global, out: &mut O, lives: &[Life]) -> Result<bool, Status>
     ensures printed { Prints (O.written out.old) (O.faults out.old) (O.written out.new) (O.faults out.new)
-        (incomplete_lines (lives_seen lives.now)) result }
-    ensures complete { IfOk result (λ all. all ≡ list_all (λ life. life.done) (lives_seen lives.now)) }
+        (incomplete_lines lives.now) result }
+    ensures complete { IfOk result (λ all. all ≡ list_all (λ life. life.done) lives.now) }
     ensures same { O.made out.new ≡ O.made out.old }
 {
     let mut all = true;
     for life in lives {
         print_life(alloc, out, life)?;
-        all = all && life.done;
+        all = all && life.is_done();
     }
     Ok(all)
 }
 
 /// The moment at which a session ended.
-fn end_moment(words: &RxWords, cause: Cause, table: &Table) -> u64
-    ensures { result ≡ end_moment words.now cause table.now }
+fn end_moment(words: &RxWords, cause: Cause, receiver: &Receiver) -> u64
+    ensures { result ≡ end_moment words.now cause (seen receiver.now) }
 {
     match cause {
         Cause::Quiet => words.until,
-        Cause::Ended | Cause::Closed | Cause::Limit => table.clock(),
+        Cause::Ended | Cause::Closed | Cause::Limit => receiver.table.clock(),
     }
 }
 
@@ -107,19 +120,20 @@ pub fn print_end<O: Sink>(
     out: &mut O,
     words: &RxWords,
     cause: Cause,
-    table: &Table,
+    receiver: &Receiver,
     datagrams: u32,
 ) -> Result<bool, Status>
     ensures printed { (records : List Record) → length records ≡ datagrams
         → Prints (O.written out.old) (O.faults out.old) (O.written out.new) (O.faults out.new)
-        (end_events (known_of words.now records (Some cause)) table.now (Some cause)) result }
-    ensures complete { IfOk result (λ all. all ≡ list_all (λ life. life.done) table.now.lives) }
+        (end_events (known_of words.now records (Some cause)) (seen receiver.now) (Some cause)) result }
+    ensures complete { IfOk result (λ all. all ≡ list_all (λ life. life.done) receiver.now.table.lives) }
     ensures same { O.made out.new ≡ O.made out.old }
 {
-    let moment = end_moment(words, cause, table);
+    let moment = end_moment(words, cause, receiver);
     let line = end_line(alloc, cause, moment, u64::from(datagrams))?;
     print(out, line.as_str())?;
-    print_faults(alloc, out, table.faults(), &FaultKind::ALL)?;
-    print_drops(alloc, out, table.drops(), &Reason::ALL)?;
-    print_incomplete(alloc, out, table.lives())
+    print_expired(alloc, out, receiver.table.expired())?;
+    print_faults(alloc, out, receiver.faults, &FaultKind::ALL)?;
+    print_drops(alloc, out, receiver.drops, &Reason::ALL)?;
+    print_incomplete(alloc, out, receiver.table.lives())
 }

@@ -2,26 +2,22 @@
 #![tactic(auto)]
 
 mod cause;
-mod drops;
 mod end_lines;
 mod events;
 mod faults;
-mod form;
 mod laws;
 mod lines;
-mod lives;
 #[cfg(test)]
 mod longest_tests;
 #[cfg(test)]
 mod packets_tests;
 #[cfg(test)]
 mod receive_tests;
+mod receiver;
 mod receiving;
 mod session;
-mod table;
 #[cfg(test)]
 mod texts_tests;
-mod toi;
 mod words;
 #[cfg(test)]
 mod words_tests;

@@ -2,12 +2,12 @@ ghost use Rattle.std.specs.Prelude.{◌≡◌, ◌<◌, ◌/◌, ◌%◌, ◌+�
 ghost use Rattle.mb_rx.specs.Lines as line;
 
 use crate::cause::Cause;
-use crate::lives::Report;
 use mb_fdt::{FdtFault, FdtKind};
+use mb_machine::{InstanceReport, Reason};
 use std::alloc::{AllocError, Global};
 
 /// The line that says what an FDT Instance did.
-pub fn instance_line(alloc: Global, id: u32, report: &Report) -> Result<String, AllocError>
+pub fn instance_line(alloc: Global, id: u32, report: &InstanceReport) -> Result<String, AllocError>
     ensures { IfOk result (λ text. string_bytes text ≡ line.instance id report.now) }
 {
     let (started, prolonged) = (report.started, report.prolonged);
@@ -16,7 +16,7 @@ pub fn instance_line(alloc: Global, id: u32, report: &Report) -> Result<String, 
 }
 
 #[tactic(auto, unfolding(crate::specs::Lines::others))]
-fn others_text(alloc: Global, report: &Report) -> Result<String, AllocError>
+fn others_text(alloc: Global, report: &InstanceReport) -> Result<String, AllocError>
     ensures { IfOk result (λ text. string_bytes text ≡ line.others report.now) }
 {
     let (conflicting, refused) = (report.conflicting, report.refused);
@@ -30,6 +30,13 @@ pub fn bad_instance_line(alloc: Global, id: u32, fault: FdtFault) -> Result<Stri
 {
     let (number, place) = (fault_number(fault.kind), fault.place);
     format!(in alloc; "fdt {id} fault {number} at {place}\n")
+}
+
+/// The line of an FDT Instance that was whole after its Expires.
+pub fn late_instance_line(alloc: Global, id: u32) -> Result<String, AllocError>
+    ensures { IfOk result (λ text. string_bytes text ≡ line.late_instance id) }
+{
+    format!(in alloc; "fdt {id} late\n")
 }
 
 fn fault_number(kind: FdtKind) -> u8
@@ -58,6 +65,43 @@ pub fn stored_line(
 {
     let shown = location_text(alloc, location)?;
     format!(in alloc; "stored {toi} {len} {shown}\n")
+}
+
+/// The line of a file whose bytes have another digest than its description gives.
+pub fn damaged_line(
+    alloc: Global,
+    toi: u128,
+    given: &[u8; 16],
+    found: &[u8; 16],
+) -> Result<String, AllocError>
+    ensures { IfOk result (λ text. string_bytes text ≡ line.damaged toi given.now found.now) }
+{
+    let given = digest_text(alloc, given)?;
+    let found = digest_text(alloc, found)?;
+    format!(in alloc; "damaged {toi} {given} {found}\n")
+}
+
+/// A digest as it is printed: two digits for each byte.
+fn digest_text(alloc: Global, digest: &[u8; 16]) -> Result<String, AllocError>
+    ensures { IfOk result (λ text. string_bytes text ≡ line.digest_text digest.now) }
+{
+    let mut text = String::with_capacity(alloc, 32)?;
+    for byte in digest {
+        text.push(small_hex_digit(*byte / 16))?;
+        text.push(small_hex_digit(*byte % 16))?;
+    }
+    Ok(text)
+}
+
+fn small_hex_digit(n: u8) -> char
+    requires { n < 16 }
+    ensures { result ≡ line.small_hex_digit n }
+{
+    if n < 10 {
+        char::from(b'0' + n)
+    } else {
+        char::from(b'a' - 10 + n)
+    }
 }
 
 /// A location as it is printed: visible ASCII characters as they are, and every other byte and the percent
@@ -116,6 +160,35 @@ fn cause_word(cause: Cause) -> &'static str
         Cause::Ended => "ended",
         Cause::Closed => "closed",
         Cause::Limit => "limit",
+    }
+}
+
+/// The line of the lives that ended and were not handed out.
+pub fn expired_line(alloc: Global, n: u64) -> Result<String, AllocError>
+    ensures { IfOk result (λ text. string_bytes text ≡ line.expired n) }
+{
+    format!(in alloc; "expired {n}\n")
+}
+
+/// The word by which a reason to drop is printed.
+pub fn reason_word(reason: Reason) -> &'static str
+    ensures { result.now ≡ line.reason_word reason }
+{
+    match reason {
+        Reason::Closed => "closed",
+        Reason::OtherSession => "othersession",
+        Reason::NoToi => "notoi",
+        Reason::NoBody => "nobody",
+        Reason::FdtWithoutIds => "fdtwithoutids",
+        Reason::FdtEncoded => "fdtencoded",
+        Reason::FdtShape => "fdtshape",
+        Reason::Unknown => "unknown",
+        Reason::FtiDiffers => "ftidiffers",
+        Reason::CodePointDiffers => "codepointdiffers",
+        Reason::Block => "block",
+        Reason::Symbol => "symbol",
+        Reason::Length => "length",
+        Reason::Done => "done",
     }
 }
 

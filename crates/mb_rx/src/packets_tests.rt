@@ -6,7 +6,9 @@ use std::process::Abort;
 use std::test::Fail;
 use std::thread::Threads;
 
-const DROPPED: [Case<'static>; 9] = [
+const LATE: &str = "fdt 1 late";
+
+const DROPPED: [Case<'static>; 10] = [
     (
         &[FDT, HELLO, HELLO],
         &[
@@ -61,22 +63,32 @@ const DROPPED: [Case<'static>; 9] = [
         0,
         &[FILE],
     ),
-    // Bytes that are no symbol of the object: another payload ID, and lengths next to its own.
+    // What is no symbol of the object: another block, another symbol, and too few bytes.
     (
         &[
             FDT,
+            (NOW, Sent::Symbol(1, 5, 0x1_0000, b"hello")),
             (NOW, Sent::Symbol(1, 5, 1, b"hello")),
             (NOW, Sent::Symbol(1, 5, 0, b"hell")),
-            (NOW, Sent::Symbol(1, 5, 0, b"hello!")),
+            (NOW, Sent::Symbol(1, 5, 0, b"")),
         ],
         &[
             FDT1,
-            "end ended 3899999000 datagrams 4",
-            "dropped notbuilt 3",
+            "end ended 3899999000 datagrams 5",
+            "dropped block 1",
+            "dropped symbol 1",
+            "dropped length 2",
             "incomplete 5 1",
         ],
         1,
         &[],
+    ),
+    // The bytes behind the file's last one are none of it.
+    (
+        &[FDT, (NOW, Sent::Symbol(1, 5, 0, b"hello!"))],
+        &[FDT1, STORED, "end ended 3899999000 datagrams 2"],
+        0,
+        &[FILE],
     ),
     (
         &[FDT, FDT, HELLO],
@@ -84,7 +96,7 @@ const DROPPED: [Case<'static>; 9] = [
             FDT1,
             STORED,
             "end ended 3899999000 datagrams 3",
-            "dropped notbuilt 1",
+            "dropped done 1",
         ],
         0,
         &[FILE],
@@ -99,20 +111,16 @@ const DROPPED: [Case<'static>; 9] = [
     (
         &[(EXPIRES + 1, WHOLE), HELLO],
         &[
+            LATE,
             "end ended 3900000001 datagrams 2",
             "dropped unknown 1",
-            "dropped notbuilt 1",
         ],
         0,
         &[],
     ),
     (
         &[(EXPIRES + 1, BYTE), FDT],
-        &[
-            "end ended 3900000001 datagrams 2",
-            "dropped short 1",
-            "dropped notbuilt 1",
-        ],
+        &[LATE, "end ended 3900000001 datagrams 2", "dropped short 1"],
         0,
         &[],
     ),
@@ -233,6 +241,62 @@ const EXTENDED_HELLO: (u64, Sent<'static>) = (
     ]),
 );
 
+/// The file with an EXT_FTI of another length.
+const OTHER_HELLO: (u64, Sent<'static>) = (
+    NOW,
+    Sent::Words(
+        &[0x10a0_0800, 0, 1, 5, 0x4004_0000, 6, 1400, 64, 0],
+        b"hello",
+    ),
+);
+
+/// A packet of an FDT Instance with no ID, one with no EXT_FTI, one that is encoded, and one of an empty text.
+const UNNAMED_TEXT: (u64, Sent<'static>) = (NOW, Sent::Symbol(1, 0, 0, b"<"));
+
+const UNSIZED_TEXT: (u64, Sent<'static>) = (
+    NOW,
+    Sent::Words(&[0x10a0_0500, 0, 1, 0, 0xc010_0002, 0], b"<"),
+);
+
+const ENCODED_TEXT: (u64, Sent<'static>) = (
+    NOW,
+    Sent::Words(
+        &[
+            0x10a0_0a00,
+            0,
+            1,
+            0,
+            0xc010_0002,
+            0xc101_0000,
+            0x4004_0000,
+            1,
+            1400,
+            64,
+            0,
+        ],
+        b"<",
+    ),
+);
+
+const EMPTY_TEXT: (u64, Sent<'static>) = (
+    NOW,
+    Sent::Words(
+        &[
+            0x10a0_0900,
+            0,
+            1,
+            0,
+            0xc010_0002,
+            0x4004_0000,
+            0,
+            1400,
+            64,
+            0,
+        ],
+        b"<",
+    ),
+);
+
 /// A packet with no TOI and one with no body.
 const NO_TOI: (u64, Sent<'static>) = (
     NOW,
@@ -299,17 +363,32 @@ const PACKETS: [Case<'static>; 7] = [
         &[FILE],
     ),
     (
-        &[FDT, CODED_HELLO, EXTENDED_HELLO, NO_TOI, NO_BODY],
+        &[
+            FDT,
+            CODED_HELLO,
+            OTHER_HELLO,
+            EXTENDED_HELLO,
+            NO_TOI,
+            NO_BODY,
+            UNNAMED_TEXT,
+            UNSIZED_TEXT,
+            ENCODED_TEXT,
+            EMPTY_TEXT,
+        ],
         &[
             FDT1,
-            "end ended 3899999000 datagrams 5",
+            STORED,
+            "end ended 3899999000 datagrams 10",
             "dropped notoi 1",
             "dropped nobody 1",
-            "dropped notbuilt 2",
-            "incomplete 5 1",
+            "dropped fdtwithoutids 2",
+            "dropped fdtencoded 1",
+            "dropped fdtshape 1",
+            "dropped ftidiffers 1",
+            "dropped codepointdiffers 1",
         ],
-        1,
-        &[],
+        0,
+        &[FILE],
     ),
 ];
 

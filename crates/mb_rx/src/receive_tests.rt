@@ -14,8 +14,12 @@ use std::thread::Threads;
 pub(crate) enum Sent<'a> {
     /// The packet of the FDT Instance 1 whose text has these pieces.
     Text(&'a [&'a str]),
+    /// The packet of a symbol of 141 bytes of the FDT Instance 1, whose text is `TEXT`.
+    Half(u32),
     /// The packet of an object, with its TSI, its TOI and its payload ID.
     Symbol(u32, u32, u32, &'a [u8]),
+    /// The packet of these words, and of a payload.
+    Words(&'a [u32], &'a [u8]),
     /// Any bytes.
     Bytes(&'a [u8]),
 }
@@ -116,12 +120,34 @@ pub(crate) fn text_packet(alloc: Global, text: &[u8]) -> Result<Vec<u8>, Memory>
     packet_of(alloc, &head, text)
 }
 
+/// The packet of one of the two symbols of the text `TEXT`.
+fn half_packet(alloc: Global, esi: u32) -> Result<Vec<u8>, Memory> {
+    let text = join(alloc, &TEXT, "")?;
+    let half = text.len() / 2;
+    let (first, second) = text.as_slice().split_at(half);
+    let head = [
+        0x10a0_0900,
+        0,
+        1,
+        0,
+        0xc010_0001,
+        0x4004_0000,
+        282,
+        141,
+        64,
+        esi,
+    ];
+    packet_of(alloc, &head, if esi == 0 { first } else { second })
+}
+
 fn datagram_of(alloc: Global, sent: Sent<'_>) -> Result<Vec<u8>, Memory> {
     match sent {
         Sent::Text(pieces) => text_packet(alloc, &join(alloc, pieces, "")?),
+        Sent::Half(esi) => half_packet(alloc, esi),
         Sent::Symbol(tsi, toi, payload_id, payload) => {
             packet_of(alloc, &[0x10a0_0400, 0, tsi, toi, payload_id], payload)
         }
+        Sent::Words(words, payload) => packet_of(alloc, words, payload),
         Sent::Bytes(bytes) => Ok(bytes.to_vec(alloc)?),
     }
 }
@@ -213,7 +239,7 @@ pub(crate) fn assert_cases<R: Threads + Sync + AllocGlobal + Abort>(
     Ok(())
 }
 
-const ENDINGS: [Case<'static>; 6] = [
+const ENDINGS: [Case<'static>; 8] = [
     (&[], &["end ended 0 datagrams 0"], 0, &[]),
     (
         &[FDT, HELLO],
@@ -250,6 +276,30 @@ const ENDINGS: [Case<'static>; 6] = [
         &["end ended 281474976710655 datagrams 1", "dropped short 1"],
         0,
         &[],
+    ),
+    // A file ends once its instance has expired, and counts where it was not stored.
+    (
+        &[FDT, (EXPIRES, BYTE), (EXPIRES + 1, BYTE), HELLO],
+        &[
+            FDT1,
+            "end ended 3900000001 datagrams 4",
+            "expired 1",
+            "dropped short 2",
+            "dropped unknown 1",
+        ],
+        0,
+        &[],
+    ),
+    (
+        &[FDT, HELLO, (EXPIRES + 1, BYTE)],
+        &[
+            FDT1,
+            STORED,
+            "end ended 3900000001 datagrams 3",
+            "dropped short 1",
+        ],
+        0,
+        &[FILE],
     ),
 ];
 

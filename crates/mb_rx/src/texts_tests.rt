@@ -14,9 +14,9 @@ const LONGER: &str =
 const EMPTY: &str =
     "<File Content-Location=\"a\" TOI=\"6\" Content-Length=\"0\" FEC-OTI-FEC-Encoding-ID=\"0\" FEC-OTI-Maximum-Source-Block-Length=\"64\" FEC-OTI-Encoding-Symbol-Length=\"4\"/>\n";
 
-/// A file with a digest.
+/// The file "abcd" with its digest.
 const DIGESTED: &str =
-    "<File Content-Location=\"a\" TOI=\"6\" Content-Length=\"4\" Content-MD5=\"AAAAAAAAAAAAAAAAAAAAAA==\" FEC-OTI-FEC-Encoding-ID=\"0\" FEC-OTI-Maximum-Source-Block-Length=\"64\" FEC-OTI-Encoding-Symbol-Length=\"4\"/>\n";
+    "<File Content-Location=\"a\" TOI=\"6\" Content-Length=\"4\" Content-MD5=\"4vxxTEcn7pOV8yTNLn8zHw==\" FEC-OTI-FEC-Encoding-ID=\"0\" FEC-OTI-Maximum-Source-Block-Length=\"64\" FEC-OTI-Encoding-Symbol-Length=\"4\"/>\n";
 
 /// A file under Raptor.
 const RAPTOR: &str =
@@ -39,13 +39,17 @@ const REFUSED: &str = "fdt 1 started 0 prolonged 0 conflicting 0 refused 1 norow
 
 const BOTH: &str = "fdt 1 started 1 prolonged 0 conflicting 0 refused 1 norow 0 full 0";
 
+const STARTED_2: &str = "fdt 1 started 2 prolonged 0 conflicting 0 refused 0 norow 0 full 0";
+
+const ONE_DATAGRAM: &str = "end ended 3899999000 datagrams 1";
+
 const TWO_DATAGRAMS: &str = "end ended 3899999000 datagrams 2";
 
 const THREE_DATAGRAMS: &str = "end ended 3899999000 datagrams 3";
 
-const NOT_BUILT: &str = "dropped notbuilt 1";
+const LATE: &str = "fdt 1 late";
 
-const READ: [Case<'static>; 4] = [
+const READ: [Case<'static>; 5] = [
     // An entry that is refused leaves the others.
     (
         &[(NOW, Sent::Text(&[HEAD, UNPLACED, END])), HELLO],
@@ -68,16 +72,88 @@ const READ: [Case<'static>; 4] = [
         0,
         &[FILE],
     ),
-    // The next text is not looked at.
+    // No other text comes under the ID of an instance that was read.
     (
         &[FDT, (NOW, Sent::Text(&["<"])), HELLO],
-        &[FDT1, STORED, THREE_DATAGRAMS, NOT_BUILT],
+        &[FDT1, STORED, THREE_DATAGRAMS, "dropped ftidiffers 1"],
+        0,
+        &[FILE],
+    ),
+    // A text of two symbols, in any order.
+    (
+        &[(NOW, Sent::Half(1)), (NOW, Sent::Half(0)), HELLO],
+        &[FDT1, STORED, THREE_DATAGRAMS],
         0,
         &[FILE],
     ),
 ];
 
-const NOT_READ: [Case<'static>; 8] = [
+const FILES: [Case<'static>; 6] = [
+    // A file of two symbols, one by one or in one packet.
+    (
+        &[
+            (NOW, Sent::Text(&[HEAD, ENTRY, LONGER, END])),
+            (NOW, Sent::Symbol(1, 6, 1, b"e")),
+            (NOW, Sent::Symbol(1, 6, 0, b"abcd")),
+        ],
+        &[STARTED_2, "stored 6 5 a", THREE_DATAGRAMS, "incomplete 5 1"],
+        1,
+        &[(6, "a", b"abcde")],
+    ),
+    (
+        &[
+            (NOW, Sent::Text(&[HEAD, LONGER, END])),
+            (NOW, Sent::Symbol(1, 6, 0, b"abcde")),
+        ],
+        &[FDT1, "stored 6 5 a", TWO_DATAGRAMS],
+        0,
+        &[(6, "a", b"abcde")],
+    ),
+    (
+        &[
+            (NOW, Sent::Text(&[HEAD, LONGER, END])),
+            (NOW, Sent::Symbol(1, 6, 1, b"e")),
+        ],
+        &[FDT1, TWO_DATAGRAMS, "incomplete 6 1"],
+        1,
+        &[],
+    ),
+    // An empty file is there at once.
+    (
+        &[(NOW, Sent::Text(&[HEAD, ENTRY, EMPTY, END]))],
+        &[STARTED_2, "stored 6 0 a", ONE_DATAGRAM, "incomplete 5 1"],
+        1,
+        &[(6, "a", b"")],
+    ),
+    // A damaged file waits for other symbols.
+    (
+        &[
+            (NOW, Sent::Text(&[HEAD, DIGESTED, END])),
+            (NOW, Sent::Symbol(1, 6, 0, b"abce")),
+            (NOW, Sent::Symbol(1, 6, 0, b"abcd")),
+        ],
+        &[
+            FDT1,
+            "damaged 6 e2fc714c4727ee9395f324cd2e7f331f b9c4fe92c2a30ef69833ac8f53eebcec",
+            "stored 6 4 a",
+            THREE_DATAGRAMS,
+        ],
+        0,
+        &[(6, "a", b"abcd")],
+    ),
+    (
+        &[(NOW, Sent::Text(&[HEAD, RAPTOR, ENTRY, END]))],
+        &[
+            "fdt 1 started 1 prolonged 0 conflicting 0 refused 0 norow 1 full 0",
+            ONE_DATAGRAM,
+            "incomplete 5 1",
+        ],
+        1,
+        &[],
+    ),
+];
+
+const NOT_READ: [Case<'static>; 6] = [
     // A text with a fault leaves room for another.
     (
         &[
@@ -115,30 +191,14 @@ const NOT_READ: [Case<'static>; 8] = [
             NOW,
             Sent::Text(&["<FDT-Instance Expires='1' Expires='1'/>"]),
         )],
-        &["fdt 1 fault 7 at 26", "end ended 3899999000 datagrams 1"],
+        &["fdt 1 fault 7 at 26", ONE_DATAGRAM],
         0,
         &[],
     ),
-    // An instance with a file that is not received yet is dropped whole.
-    (
-        &[(NOW, Sent::Text(&[HEAD, ENTRY, LONGER, END])), HELLO],
-        &[TWO_DATAGRAMS, "dropped unknown 1", NOT_BUILT],
-        0,
-        &[],
-    ),
-    (
-        &[
-            (NOW, Sent::Text(&[HEAD, DIGESTED, END])),
-            (NOW, Sent::Text(&[HEAD, RAPTOR, ENTRY, END])),
-            (NOW, Sent::Text(&[HEAD, ENTRY, EMPTY, END])),
-        ],
-        &[THREE_DATAGRAMS, "dropped notbuilt 3"],
-        0,
-        &[],
-    ),
+    // A late instance leaves room for another.
     (
         &[(NOW, Sent::Text(&[EXPIRED, ENTRY, END])), FDT, HELLO],
-        &[FDT1, STORED, THREE_DATAGRAMS, NOT_BUILT],
+        &[LATE, FDT1, STORED, THREE_DATAGRAMS],
         0,
         &[FILE],
     ),
@@ -147,11 +207,7 @@ const NOT_READ: [Case<'static>; 8] = [
             (NOW + 1, BYTE),
             (NOW, Sent::Text(&["<FDT-Instance Expires='3899999000'/>"])),
         ],
-        &[
-            "end ended 3899999001 datagrams 2",
-            "dropped short 1",
-            NOT_BUILT,
-        ],
+        &[LATE, "end ended 3899999001 datagrams 2", "dropped short 1"],
         0,
         &[],
     ),
@@ -161,5 +217,11 @@ const NOT_READ: [Case<'static>; 8] = [
 fn the_text_of_an_instance_is_read_or_its_fault_printed(rt: HostRuntime) -> Result<(), Fail> {
     assert_cases(&rt, &READ)?;
     assert_cases(&rt, &NOT_READ)?;
+    Ok(())
+}
+
+#[test]
+fn files_of_any_size_are_stored_and_damaged_ones_told(rt: HostRuntime) -> Result<(), Fail> {
+    assert_cases(&rt, &FILES)?;
     Ok(())
 }

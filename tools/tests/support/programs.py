@@ -35,8 +35,9 @@ def show_words():
     return [path_of("mbms_tab"), "show"]
 
 
-def fdt_line(started):
-    return f"fdt 1 started {started} prolonged 0 conflicting 0 refused 0 norow 0 full 0\n"
+def fdt_line(started, number=1, prolonged=0, conflicting=0, refused=0, norow=0, full=0):
+    counts = f"prolonged {prolonged} conflicting {conflicting} refused {refused} norow {norow} full {full}"
+    return f"fdt {number} started {started} {counts}\n"
 
 
 class ProgramTest(unittest.TestCase):

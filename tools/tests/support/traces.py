@@ -1,5 +1,6 @@
 """Packet traces, and the datagrams of a FLUTE session, written field by field."""
 
+import base64
 import struct
 
 # The Unix second 0 in NTP seconds.
@@ -33,7 +34,7 @@ def is_trace(data):
 # Datagrams (RFC 3451 section 5.1, RFC 3926 sections 3.4.1 and 5.1.1).
 
 
-def header(toi, extensions=b"", short=False):
+def header(toi, extensions=b"", short=False, cp=0):
     """An LCT header. Its TSI and TOI have 4 bytes each, or 2 in a short one, or 6 and 14 for a TOI that is longer."""
     if short:
         widths, fields = 0x10, struct.pack(">HH", TSI, toi)
@@ -42,12 +43,43 @@ def header(toi, extensions=b"", short=False):
     else:
         widths, fields = 0xF0, TSI.to_bytes(6, "big") + toi.to_bytes(14, "big")
     words = (8 + len(fields) + len(extensions)) // 4
-    return struct.pack(">BBBBL", 0x10, widths, words, 0, 0) + fields + extensions
+    return struct.pack(">BBBBL", 0x10, widths, words, cp, 0) + fields + extensions
 
 
-def symbol(toi, payload, sbn=0, esi=0):
+def symbol(toi, payload, sbn=0, esi=0, extensions=b"", cp=0):
     """A packet of a file."""
-    return header(toi) + struct.pack(">HH", sbn, esi) + payload
+    return header(toi, extensions, cp=cp) + struct.pack(">HH", sbn, esi) + payload
+
+
+def pieces(data, size):
+    return [data[place : place + size] for place in range(0, len(data), size)]
+
+
+def symbols(toi, data, size, most):
+    """The packets of a file of so many bytes a symbol and so many symbols a block at most, one symbol in each."""
+    source = pieces(data, size)
+    blocks = -(-len(source) // most)
+    small, larger = divmod(len(source), blocks)
+    packets = []
+    for sbn in range(blocks):
+        block, source = source[: small + (sbn < larger)], source[small + (sbn < larger) :]
+        packets += [symbol(toi, piece, sbn, esi) for esi, piece in enumerate(block)]
+    return packets
+
+
+def fdt_extension(number):
+    return struct.pack(">L", 0xC010_0000 | number)
+
+
+def fti_extension(length, size, most):
+    return b"\x40\x04" + length.to_bytes(6, "big") + struct.pack(">HHL", 0, size, most)
+
+
+def instance_packets(text, size, number=1):
+    """The packets of an FDT Instance whose text is cut into symbols of so many bytes, in one block."""
+    source = pieces(text, size)
+    extensions = fdt_extension(number) + fti_extension(len(text), size, len(source))
+    return [symbol(0, piece, 0, esi, extensions) for esi, piece in enumerate(source)]
 
 
 def instance(text, number=1, short=False):
@@ -57,17 +89,18 @@ def instance(text, number=1, short=False):
     return header(0, extensions, short) + bytes(4) + text
 
 
-def file_element(toi, length, location, symbol_length=65_535):
+def file_element(toi, length, location, symbol_length=65_535, most=64, md5=None):
+    digest = f' Content-MD5="{base64.b64encode(md5).decode()}"' if md5 else ""
     return (
-        f'<File Content-Location="{location}" TOI="{toi}" Content-Length="{length}"'
-        ' FEC-OTI-FEC-Encoding-ID="0" FEC-OTI-Maximum-Source-Block-Length="64"'
+        f'<File Content-Location="{location}" TOI="{toi}" Content-Length="{length}"{digest}'
+        f' FEC-OTI-FEC-Encoding-ID="0" FEC-OTI-Maximum-Source-Block-Length="{most}"'
         f' FEC-OTI-Encoding-Symbol-Length="{symbol_length}"/>'
     )
 
 
-def text(*elements):
+def text(*elements, expires=3_900_000_000):
     """The text of an FDT Instance with these File elements."""
-    return f'<FDT-Instance Expires="3900000000">{"".join(elements)}</FDT-Instance>'.encode()
+    return f'<FDT-Instance Expires="{expires}">{"".join(elements)}</FDT-Instance>'.encode()
 
 
 def described(files, locations=None):

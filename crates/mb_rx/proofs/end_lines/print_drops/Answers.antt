@@ -1,9 +1,10 @@
 use Rattle.std.proofs.Common.{◌≡◌, List, take, sym, ap₂, ◌∙◌, subst, take_all}
 use Rattle.mb_rx.specs.Lines as line
-use Rattle.mb_rx.specs.declared.drops.Reason.{Reason}
-use Rattle.mb_rx.specs.declared.drops.Reason.TheVariants as reason
+use Rattle.mb_machine.specs.Counts.{drop_count}
+use Rattle.mb_machine.specs.declared.reason.Reason.{Reason}
+use Rattle.mb_machine.specs.declared.reason.Reason.TheVariants as reason
 use Rattle.mb_rx.specs.Receive.{Makes, outputs}
-use Rattle.mb_rx.specs.Run.{Event, count_line, drop_count, drop_lines}
+use Rattle.mb_rx.specs.Run.{Event, count_line, drop_lines}
 use Rattle.mb_rx.proofs.Making.{Makes-trans}
 use Rattle.mb_rx.proofs.Printing.{Prints-stop, Prints-then, Prints-same, Stops-same, flat_map-more, flat_map-at}
 use Rattle.mb_rx.proofs.end_lines.print_drops.Goals as goal
@@ -14,7 +15,7 @@ returns-in_err-print_count-clause-printed g c =
     Prints-same _ _ _ _ _ _ c.from_residual.result (flat_map-at of c.args.reasons.now c.loop-reason.reason-index reason.Closed c.loop-reason-test.true)
     (Prints-then _ _ _ _ _ _ _ _ c.from_residual.result c.loop-reason.invariant.made
     (Prints-stop _ _ _ _ _ _ _ c.from_residual.result c.from_residual.ensures.1
-    (Stops-same c.in_err-print_count.field-0.0 _ _ _ _ _ _ (ap₂ count_line c.word.ensures c.count.ensures) c.in_err-print_count.ensures.printed)))
+    (Stops-same c.in_err-print_count.field-0.0 _ _ _ _ _ _ (ap₂ count_line c.reason_word.ensures c.count.ensures) c.in_err-print_count.ensures.printed)))
 
 pub loop-reason-preserved : goal.loop-reason-preserved
 loop-reason-preserved g c =
@@ -26,7 +27,7 @@ loop-reason-preserved g c =
           subst (λ events. Makes (outputs files faults (g.O.Sink.written c.args.out.now) (g.O.Sink.faults c.args.out.now)) after events)
           (sym (flat_map-more of c.args.reasons.now c.loop-reason.reason-index reason.Closed c.loop-reason-test.true))
           (Makes-trans _ before after _ _ (c.loop-reason.invariant.made files faults)
-          (subst (λ events. Makes before after events) (ap₂ count_line c.word.ensures c.count.ensures) (c.in_ok-print_count.ensures.printed files faults)));
+          (subst (λ events. Makes before after events) (ap₂ count_line c.reason_word.ensures c.count.ensures) (c.in_ok-print_count.ensures.printed files faults)));
       same = c.print_count.ensures.same ∙ c.loop-reason.invariant.same;
     }
 

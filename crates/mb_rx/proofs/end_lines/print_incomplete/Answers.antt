@@ -1,8 +1,7 @@
 use Rattle.std.proofs.Common.{◌≡◌, ◌&&◌, Bool, true, false, List, take, sym, ap, ◌∙◌, subst, take_all}
 use Rattle.mb_rx.specs.Receive.{Makes, outputs}
 use Rattle.mb_rx.specs.Run.{incomplete_lines}
-use Rattle.mb_rx.specs.ValueView.{lives_seen}
-use Rattle.mb_rx.specs.declared.lives.Life.{Life}
+use Rattle.mb_life.specs.Life.{Life}
 use Rattle.mb_rx.proofs.Making.{Makes-trans}
 use Rattle.mb_rx.proofs.Printing.{Prints-stop, Prints-then, Prints-same, incomplete_lines-more, incomplete_lines-at, all_done-more}
 use Rattle.mb_rx.proofs.end_lines.print_incomplete.Goals as goal
@@ -23,7 +22,7 @@ returns-in_err-print_life-clause-printed g c =
 pub loop-life-preserved : goal.loop-life-preserved
 loop-life-preserved g c =
     let all : c.if-all.all ≡ (c.loop-life.all && c.life-item.result.done) = elim c.if-all.branch [
-      | then-all w ↦ and_of-true c.loop-life.all c.life-item.result.done c.if-all.all w.if-all.true w.all-is
+      | then-all w ↦ and_of-true c.loop-life.all c.life-item.result.done c.if-all.all w.if-all.true (w.all-is ∙ w.is_done-all.ensures)
       | else-all w ↦ and_of-false c.loop-life.all c.life-item.result.done c.if-all.all w.if-all.false (w.all-is ∙ w.if-all.false)
     ] in record {
       made = λ files faults. subst
@@ -38,5 +37,5 @@ loop-life-preserved g c =
 pub returns-clause-printed : goal.returns-clause-printed
 returns-clause-printed g c = λ files faults.
     let all : take c.loop-life.life-index c.args.lives.now ≡ c.args.lives.now = take_all c.loop-life.life-index c.args.lives.now c.loop-life-test.false in
-    subst (λ (lives : List Life). Makes (outputs files faults (g.O.Sink.written c.args.out.now) (g.O.Sink.faults c.args.out.now)) (outputs files faults (g.O.Sink.written c.loop-life.out) (g.O.Sink.faults c.loop-life.out)) (incomplete_lines (lives_seen lives)))
+    subst (λ (lives : List Life). Makes (outputs files faults (g.O.Sink.written c.args.out.now) (g.O.Sink.faults c.args.out.now)) (outputs files faults (g.O.Sink.written c.loop-life.out) (g.O.Sink.faults c.loop-life.out)) (incomplete_lines lives))
     all (c.loop-life.invariant.made files faults)

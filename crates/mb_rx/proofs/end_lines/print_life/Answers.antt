@@ -1,7 +1,6 @@
-use Rattle.std.proofs.Common.{ℕ, List, [], ◌∷◌, sym, ap, ◌∙◌}
+use Rattle.std.proofs.Common.{ℕ, List, [], ◌∷◌, sym, ap, ap₂, ◌∙◌}
 use Rattle.mb_rx.specs.Lines as line
 use Rattle.mb_rx.specs.Run.{Line}
-use Rattle.mb_rx.specs.ValueView.{life_seen}
 use Rattle.mb_rx.proofs.Printing.{Prints-memory, Prints-same, incomplete_lines-one}
 use Rattle.mb_rx.proofs.end_lines.print_life.Goals as goal
 
@@ -10,5 +9,6 @@ returns-in_err-line-clause-printed g c = Prints-memory _ _ _ c.from_residual.res
 
 pub returns-clause-printed : goal.returns-clause-printed
 returns-clause-printed g c = Prints-same _ _ _ _ _ _ c.print.result
-    (ap (λ (text : List ℕ). Line text ∷ []) (c.as_str.ensures.value ∙ (c.in_ok-line.ensures ∙ ap (λ toi. line.incomplete toi 1) c.number.ensures)) ∙ sym (incomplete_lines-one (life_seen c.args.life.now) c.if-life.false))
+    (ap (λ (text : List ℕ). Line text ∷ []) (c.as_str.ensures.value ∙ (c.in_ok-line.ensures ∙ ap₂ line.incomplete c.toi.ensures c.missing.ensures))
+    ∙ sym (incomplete_lines-one c.args.life.now (sym c.is_done.ensures ∙ c.if-is_done.false)))
     c.print.ensures.printed

@@ -1,6 +1,10 @@
-use Rattle.std.proofs.Common.{ap, Err}
+use Rattle.std.proofs.Common.{rules, ap, Err}
 use Rattle.mb_rx.proofs.RunLemmas.{refused_words, Refuses-as, refuses-no_air, refuses-no_store, no_memory}
+use Rattle.mb_rx.proofs.WordLemmas.{few_workers}
 use Rattle.mb_rx.proofs.receiving.receive.Goals as goal
+
+pub run-requires-clause-workers : goal.run-requires-clause-workers
+run-requires-clause-workers g c = let few = few_workers _ c.in-Ok.values c.in-Ok.ensures.read in search rules
 
 pub returns-in-Ok-run-clause-air_fault : goal.returns-in-Ok-run-clause-air_fault
 returns-in-Ok-run-clause-air_fault g c = λ air. absurd (c.in-Ok-run.ensures.ended air)

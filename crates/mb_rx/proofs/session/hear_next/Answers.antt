@@ -10,7 +10,7 @@ returns-in_err-hear_datagram-in-Datagram-clause-hears g c =
     let p = err_from_is_err_and c.from_residual.result c.from_residual.ensures.1 in
     hears-stopped c.args.words.now _ _ _ _ _ _ _ _ p.0 c.from_residual.result
     (Hears-datagram c.args.words.now.until c.in-Datagram.at c.in-Datagram.len _ _ _ c.in-Datagram.ensures.heard)
-    c.in-Datagram.ensures.within.0 p.1 p.2 (sym c.is_closed.ensures ∙ c.if-is_closed.false) (rw c.front.ensures at c.in_err-hear_datagram-in-Datagram.ensures.made)
+    c.in-Datagram.ensures.within.0 p.1 p.2 (sym c.is_closed.ensures ∙ c.if-is_closed.false) (rw c.front-bytes.ensures at c.in_err-hear_datagram-in-Datagram.ensures.made)
 
 pub returns-in_ok-hear_datagram-in-Datagram-clause-hears :
     goal.returns-in_ok-hear_datagram-in-Datagram-clause-hears
@@ -21,8 +21,8 @@ returns-in_ok-hear_datagram-in-Datagram-clause-hears g c = record {
   in_time = (c.in-Datagram.ensures.within.0, tt);
   asked = sym c.is_closed.ensures ∙ c.if-is_closed.false;
   failed = tt;
-  heard = (refl, (rw c.front.ensures at c.in_ok-hear_datagram-in-Datagram.ensures.heard));
-  played = (rw c.front.ensures at c.in_ok-hear_datagram-in-Datagram.ensures.made);
+  heard = (refl, (rw c.front-bytes.ensures at c.in_ok-hear_datagram-in-Datagram.ensures.heard));
+  played = (rw c.front-bytes.ensures at c.in_ok-hear_datagram-in-Datagram.ensures.made);
 }
 
 pub returns-in-Quiet-clause-hears : goal.returns-in-Quiet-clause-hears
