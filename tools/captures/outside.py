@@ -58,6 +58,11 @@ def reason(error):
     return error.strerror or type(error).__name__
 
 
+def shown(path):
+    """The path as a line can have it."""
+    return path if path.isprintable() else repr(path)
+
+
 def address_of(word):
     try:
         address = ipaddress.ip_address(word)
@@ -135,7 +140,7 @@ def converted(path, convert):
 
 def status_and_line(path, convert):
     """Converts a file. Gives the program's status, and what is told at its end, if anything is."""
-    name = "standard input" if path is None else path if path.isprintable() else repr(path)
+    name = "standard input" if path is None else shown(path)
     try:
         return 0, converted(path, convert)
     except Fault as fault:

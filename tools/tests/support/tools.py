@@ -1,4 +1,4 @@
-"""`pcap2trace` and `trace2pcap`: in a process without a new start of Python, and as they are called."""
+"""The tools: in a process without a new start of Python, and as they are called."""
 
 import importlib.machinery
 import importlib.util
