@@ -99,6 +99,15 @@ pub record IsGood (d : Description) : Type 0 where
   pub blocks : block_count d ≤ 65536
   pub sizes : bad_block d ≡ None
 
+-- how its symbols are divided into blocks
+unfoldable pub division : Description → Parts
+division d = blocking (symbols d) d.scheme
+
+-- a good description beside the blocks that its symbols are divided into
+pub record IsDivided (d : Description) (blocks : Parts) : Type 0 where
+  pub good : IsGood d
+  pub blocks_are : blocks ≡ division d
+
 -- what the parts say, with 0 for what they leave out
 abbrev pub description_of : DescParts → Description
 description_of p = record {

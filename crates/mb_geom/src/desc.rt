@@ -111,17 +111,19 @@ pub struct Desc {
     symbol: u16,
     scheme: Scheme,
     md5: Option<[u8; 16]>,
+    /// How the source symbols are divided into blocks, which each packet asks for.
+    blocks: Parts,
 }
 
 impl Model for Desc {
     ghost use Rattle.std.specs.Prelude.{ℕ};
-    ghost use Rattle.mb_geom.specs.Description.{Description, IsGood};
+    ghost use Rattle.mb_geom.specs.Description.{Description, IsDivided};
 
     ghost Value = { Description };
 
     ghost view = { λ d. record { location = d.location; length = d.length; symbol = d.symbol; scheme = d.scheme; md5 = d.md5 } };
 
-    ghost invariant = { λ d. IsGood (record { location = d.location; length = d.length; symbol = d.symbol; scheme = d.scheme; md5 = d.md5 }) };
+    ghost invariant = { λ d. IsDivided (record { location = d.location; length = d.length; symbol = d.symbol; scheme = d.scheme; md5 = d.md5 }) d.blocks };
 }
 
 impl Scheme {
@@ -311,7 +313,7 @@ impl Desc {
     ghost use Rattle.std.specs.Prelude.{IsTrue, ◌↔◌, IsUtf8, sum};
     ghost use Rattle.mb_geom.specs.Partition.{sizes_of};
     ghost use Rattle.mb_geom.specs.SourceSymbol.{sub_sizes};
-    ghost use Rattle.mb_geom.specs.Description.{IsGood, described, symbols, blocking, block_count, block_size, plain, equations, tail, same_description};
+    ghost use Rattle.mb_geom.specs.Description.{IsGood, described, symbols, blocking, block_sizes, block_count, block_size, plain, equations, tail, same_description};
 
     /// The description that the parts make. A file has at most 2^28 bytes and 65,536 blocks, and each
     /// block as many symbols as its scheme allows.
@@ -339,6 +341,7 @@ impl Desc {
             length,
             symbol,
             scheme,
+            blocks,
         })
     }
 
@@ -378,8 +381,8 @@ impl Desc {
         self.md5
     }
 
-    // The symbols of the file.
-    fn symbols(&self) -> u64
+    /// The number of source symbols of the file, in all its blocks.
+    pub fn symbols(&self) -> u64
         ensures exact { result ≡ symbols self.now }
         ensures bound { result * self.now.symbol < self.now.length + self.now.symbol }
         ensures whole { self.now.length ≤ result * self.now.symbol }
@@ -388,9 +391,10 @@ impl Desc {
         self.length.div_ceil(u64::from(self.symbol))
     }
 
-    // How the symbols are divided into blocks.
+    /// How the source symbols are divided into blocks (RFC 5053 section 5.3.1.2).
     #[tactic(auto, unfolding(crate::specs::Description::block_sizes))]
-    pub(crate) fn parts(&self) -> Parts
+    pub fn parts(&self) -> Parts
+        ensures sizes { sizes_of result ≡ block_sizes self.now }
         ensures exact { result ≡ blocking (symbols self.now) self.now.scheme }
         ensures things { result.jl * result.il + result.js * result.is ≡ symbols self.now }
         ensures few { result.jl * result.il + result.js * result.is ≤ 2 ^ 28 }
@@ -398,7 +402,7 @@ impl Desc {
         ensures longer { result.il ≤ 65536 }
         ensures shorter { result.is ≤ result.il }
     {
-        self.scheme.blocks(self.length, self.symbol)
+        self.blocks
     }
 
     // The lengths of the sub-symbols of a symbol, in bytes.

@@ -47,7 +47,7 @@ impl Parts {
     };
 
     /// The number of parts.
-    pub(crate) fn count(self) -> u64
+    pub fn count(self) -> u64
         requires { self.jl + self.js < 2 ^ 64 }
         ensures { result ≡ length (sizes_of self) }
     {
@@ -55,7 +55,7 @@ impl Parts {
     }
 
     /// The number of things in a part, by its number from 0.
-    pub(crate) fn size(self, number: u64) -> u64
+    pub fn size(self, number: u64) -> u64
         requires { number < length (sizes_of self) }
         ensures exact { result ≡ slice_index (sizes_of self) number }
         ensures within { result ≤ max self.il self.is }
@@ -64,7 +64,7 @@ impl Parts {
     }
 
     /// The number of things in the parts before one, by its number from 0.
-    pub(crate) fn before(self, number: u64) -> u64
+    pub fn before(self, number: u64) -> u64
         requires { self.jl * self.il + self.js * self.is < 2 ^ 64 }
         ensures { result ≡ sum (take number (sizes_of self)) }
     {

@@ -1,6 +1,7 @@
 use Rattle.std.proofs.Common.{◌≡◌, ◌≤◌, ◌<◌, slice_index, Some, None, sym, ◌∙◌, ap, arith}
 use Rattle.mb_geom.specs.Partition.{sizes_of}
-use Rattle.mb_geom.specs.Description.{block_sizes, block_count, block_size, bad_block, description_of}
+use Rattle.mb_geom.proofs.LayoutLemmas.{divided-by}
+use Rattle.mb_geom.specs.Description.{IsGood, block_sizes, block_count, block_size, bad_block, description_of}
 use Rattle.mb_geom.proofs.BlockLemmas.{block_sizes-is, block_sizes-from}
 use Rattle.mb_geom.proofs.RefusalLemmas.{IsCoded, described-too_many, described-bad_block, described-good}
 use Rattle.mb_geom.proofs.desc.Desc.new.Goals as goal
@@ -26,17 +27,19 @@ returns-in-Some c =
     rw size_is (sym (described-bad_block c.args.parts c.in-Some.number coded few bad))
 
 pub invariant_of-result : goal.invariant_of-result
-invariant_of-result c = record {
-  location = c.requires;
-  length = c.in_ok-length.ensures.most;
-  symbol = c.in_ok-symbol.ensures.positive;
-  symbol_fits = omega arith;
-  scheme_fits = c.in_ok-symbol.ensures.fields;
-  digest = c.digest.ensures.bytes;
-  parameters = c.in_ok-symbol.ensures.parameters;
-  blocks = rw (block_sizes-is, ← c.blocks-blocks.ensures.exact) (omega arith);
-  sizes = rw (block_sizes-is, ← c.blocks-blocks.ensures.exact) (sym c.bad_block.ensures.exact ∙ c.in_default.is);
-}
+invariant_of-result c =
+    let good : IsGood (record { location = c.args.parts.location; length = c.in_ok-length.length; symbol = c.in_ok-symbol.symbol; scheme = c.in_ok-symbol.scheme; md5 = c.digest.result }) = record {
+      location = c.requires;
+      length = c.in_ok-length.ensures.most;
+      symbol = c.in_ok-symbol.ensures.positive;
+      symbol_fits = omega arith;
+      scheme_fits = c.in_ok-symbol.ensures.fields;
+      digest = c.digest.ensures.bytes;
+      parameters = c.in_ok-symbol.ensures.parameters;
+      blocks = rw (block_sizes-is, ← c.blocks-blocks.ensures.exact) (omega arith);
+      sizes = rw (block_sizes-is, ← c.blocks-blocks.ensures.exact) (sym c.bad_block.ensures.exact ∙ c.in_default.is);
+    } in
+    divided-by _ c.blocks-blocks.result good c.blocks-blocks.ensures.exact
 
 pub returns : goal.returns
 returns c =
