@@ -16,14 +16,14 @@ use Rattle.mb_block.specs.declared.way.Way.TheVariants.{NoCode}
 use Rattle.mb_block.proofs.RisingLemmas.{AreBelow, has, rising-from, rising-has_before, rising-length}
 
 -- the numbers of a range that pass a test
-passed : (ℕ → Bool) → ℕ → ℕ → List ℕ
+unfoldable pub passed : (ℕ → Bool) → ℕ → ℕ → List ℕ
 passed p n a = filter p (range_with_len a n)
 
 rising-cond : (b : Bool) (a least : ℕ) (es : List ℕ) → least ≤ a → AreRising (a + 1) es → AreRising least (cond b (a ∷ es) es)
 rising-cond true a least es le rise = (le, rise)
 rising-cond false a least es le rise = rising-from es least (a + 1) rise (omega arith)
 
-passed-rising : (p : ℕ → Bool) (n a : ℕ) → AreRising a (passed p n a)
+pub passed-rising : (p : ℕ → Bool) (n a : ℕ) → AreRising a (passed p n a)
 unfolding passed
 passed-rising p zero a = tt
 passed-rising p (suc n) a = rising-cond (p a) a a (passed p n (a + 1)) (omega arith) (passed-rising p n (a + 1))
@@ -32,12 +32,12 @@ below-cond : (b : Bool) (a end : ℕ) (es : List ℕ) → a < end → AreBelow e
 below-cond true a end es lt below = (lt, below)
 below-cond false a end es lt below = below
 
-passed-below : (p : ℕ → Bool) (n a end : ℕ) → a + n ≡ end → AreBelow end (passed p n a)
+pub passed-below : (p : ℕ → Bool) (n a end : ℕ) → a + n ≡ end → AreBelow end (passed p n a)
 unfolding passed
 passed-below p zero a end is = tt
 passed-below p (suc n) a end is = below-cond (p a) a end (passed p n (a + 1)) (omega arith) (passed-below p n (a + 1) end (omega arith))
 
-esis-pairs : (f : ℕ → Pair) → ((e : ℕ) → (f e).esi ≡ e) → (es : List ℕ) → esis (map f es) ≡ es
+pub esis-pairs : (f : ℕ → Pair) → ((e : ℕ) → (f e).esi ≡ e) → (es : List ℕ) → esis (map f es) ≡ es
 esis-pairs f is [] = refl
 esis-pairs f is (e ∷ es) = ap₂ (λ (x : ℕ) (xs : List ℕ). x ∷ xs) (is e) (esis-pairs f is es)
 
@@ -55,7 +55,7 @@ has-cond_later : (b : Bool) (a e : ℕ) (es : List ℕ) → a < e → has e (con
 has-cond_later true a e es lt = let other : (a == e) ≡ false = ne_eqb a e (λ is. omega arith) in rw other refl
 has-cond_later false a e es lt = refl
 
-passed-has : (p : ℕ → Bool) (n a e i : ℕ) → i < n → e ≡ a + i → has e (passed p n a) ≡ p e
+pub passed-has : (p : ℕ → Bool) (n a e i : ℕ) → i < n → e ≡ a + i → has e (passed p n a) ≡ p e
 unfolding passed
 passed-has p zero a e i lt is = absurd (omega arith)
 passed-has p (suc n) a e zero lt is =
@@ -67,18 +67,18 @@ passed-has p (suc n) a e (suc i) lt is =
 -- ---- one more
 
 -- from one test and its pairs to another that passes one number more
-record IsMore (pair : Pair) (p q : ℕ → Bool) (f g : ℕ → Pair) : Type 0 where
-  f_esi : (e : ℕ) → (f e).esi ≡ e
-  others : (e : ℕ) → e ≢ pair.esi → q e ≡ p e
-  same : (e : ℕ) → e ≢ pair.esi → g e ≡ f e
-  old : p pair.esi ≡ false
-  new : q pair.esi ≡ true
-  new_pair : g pair.esi ≡ pair
+pub record IsMore (pair : Pair) (p q : ℕ → Bool) (f g : ℕ → Pair) : Type 0 where
+  pub f_esi : (e : ℕ) → (f e).esi ≡ e
+  pub others : (e : ℕ) → e ≢ pair.esi → q e ≡ p e
+  pub same : (e : ℕ) → e ≢ pair.esi → g e ≡ f e
+  pub old : p pair.esi ≡ false
+  pub new : q pair.esi ≡ true
+  pub new_pair : g pair.esi ≡ pair
 
-same-cond : (b : Bool) (x y : Pair) (xs ys : List Pair) → y ≡ x → ys ≡ xs → cond b (y ∷ ys) ys ≡ cond b (x ∷ xs) xs
+pub same-cond : (b : Bool) (x y : Pair) (xs ys : List Pair) → y ≡ x → ys ≡ xs → cond b (y ∷ ys) ys ≡ cond b (x ∷ xs) xs
 same-cond b x y xs ys first others = rw (first, others) refl
 
-map-cond : (f : ℕ → Pair) (b : Bool) (e : ℕ) (es : List ℕ) → map f (cond b (e ∷ es) es) ≡ cond b (f e ∷ map f es) (map f es)
+pub map-cond : (f : ℕ → Pair) (b : Bool) (e : ℕ) (es : List ℕ) → map f (cond b (e ∷ es) es) ≡ cond b (f e ∷ map f es) (map f es)
 map-cond f true e es = refl
 map-cond f false e es = refl
 
@@ -111,7 +111,7 @@ with_pair-later true pair first kept after =
     rw less refl
 with_pair-later false pair first kept after = refl
 
-more-seen : (pair : Pair) (p q : ℕ → Bool) (f g : ℕ → Pair) → IsMore pair p q f g → (n a i : ℕ) → i < n → pair.esi ≡ a + i
+pub more-seen : (pair : Pair) (p q : ℕ → Bool) (f g : ℕ → Pair) → IsMore pair p q f g → (n a i : ℕ) → i < n → pair.esi ≡ a + i
     → map g (passed q n a) ≡ with_pair pair (map f (passed p n a))
 unfolding passed
 more-seen pair p q f g m zero a i lt is = absurd (omega arith)
@@ -138,10 +138,10 @@ more-seen pair p q f g m (suc n) a (suc i) lt is =
 -- ---- the bytes of one symbol more
 
 -- so many bytes with a piece in the place of others
-put : ℕ → ℕ → List ℕ → List ℕ → List ℕ
+unfoldable pub put : ℕ → ℕ → List ℕ → List ℕ → List ℕ
 put at t piece bytes = take at bytes ++ (piece ++ drop (at + t) bytes)
 
-put-here : (at t : ℕ) (piece bytes : List ℕ) → length piece ≡ t → at + t ≤ length bytes → take t (drop at (put at t piece bytes)) ≡ piece
+pub put-here : (at t : ℕ) (piece bytes : List ℕ) → length piece ≡ t → at + t ≤ length bytes → take t (drop at (put at t piece bytes)) ≡ piece
 unfolding put
 put-here at t piece bytes len reach = grind (arith, common_steps)
 
@@ -182,16 +182,16 @@ pub record IsPut (k t : ℕ) (bytes words new_bytes new_words piece : List ℕ) 
   pub piece_is : length piece ≡ t
   pub bytes_are : new_bytes ≡ take (place * t) bytes ++ (piece ++ drop (place * t + t) bytes)
 
-place-reach : (place k t n : ℕ) → place < k → n ≡ k * t → place * t + t ≤ n
+pub place-reach : (place k t n : ℕ) → place < k → n ≡ k * t → place * t + t ≤ n
 place-reach place k t n before is =
     let more : suc place * t ≤ k * t = mul-le-mul_right t before in
     omega (arith, more)
 
-data Apart (m n : ℕ) : Type 0 where
+pub data Apart (m n : ℕ) : Type 0 where
   Less : m < n → Apart m n
   More : n < m → Apart m n
 
-apart : (m n : ℕ) → m ≢ n → Apart m n
+pub apart : (m n : ℕ) → m ≢ n → Apart m n
 apart zero zero other = absurd (other refl)
 apart zero (suc n) other = Less (omega arith)
 apart (suc m) zero other = More (omega arith)
@@ -201,7 +201,7 @@ apart (suc m) (suc n) other = step (apart m n (λ is. other (ap suc is)))
     step (Less p) = Less (omega arith)
     step (More p) = More (omega arith)
 
-pair-other : (t place e : ℕ) (piece bytes : List ℕ) → length piece ≡ t → place * t + t ≤ length bytes → Apart e place
+pub pair-other : (t place e : ℕ) (piece bytes : List ℕ) → length piece ≡ t → place * t + t ≤ length bytes → Apart e place
     → pair_at t (put (place * t) t piece bytes) e ≡ pair_at t bytes e
 pair-other t place e piece bytes len reach (Less before) =
     ap (λ xs. let pair : Pair = record { esi = e; symbol = xs } in pair)
@@ -229,7 +229,7 @@ seen-put k t bytes words new_bytes new_words piece place len p =
 
 -- ---- none, some, and all
 
-passed-none : (p : ℕ → Bool) (n a : ℕ) → ((e : ℕ) → p e ≡ false) → passed p n a ≡ []
+pub passed-none : (p : ℕ → Bool) (n a : ℕ) → ((e : ℕ) → p e ≡ false) → passed p n a ≡ []
 unfolding passed
 passed-none p zero a none = refl
 passed-none p (suc n) a none = rw (none a) (passed-none p n (a + 1) none)
@@ -239,14 +239,14 @@ zero_word zero i = refl
 zero_word (suc m) zero = refl
 zero_word (suc m) (suc i) = zero_word m i
 
-no_bit : (m i : ℕ) → bit_in (replicate m 0) i ≡ false
+pub no_bit : (m i : ℕ) → bit_in (replicate m 0) i ≡ false
 no_bit m i = rw (zero_word m (i / 64), bit_at-zero (i % 64)) refl
 
 pub seen-none : (k t : ℕ) (bytes words : List ℕ) (m : ℕ) → words ≡ replicate m 0 → seen k t bytes words ≡ []
 unfolding seen passed
 seen-none k t bytes words m none = rw none (ap (map (pair_at t bytes)) (passed-none (bit_in (replicate m 0)) k 0 (no_bit m)))
 
-passed-length : (p : ℕ → Bool) (n a : ℕ) → length (passed p n a) ≤ n
+pub passed-length : (p : ℕ → Bool) (n a : ℕ) → length (passed p n a) ≤ n
 passed-length p n a =
     let few = rising-length (passed p n a) a (a + n) (passed-rising p n a) (passed-below p n a (a + n) refl) in omega arith
 
@@ -262,7 +262,7 @@ all-cond : (b : Bool) (a n : ℕ) (es : List ℕ) → length es ≤ n → length
 all-cond true a n es few all = (omega arith, refl)
 all-cond false a n es few all = absurd (omega arith)
 
-passed-all : (p : ℕ → Bool) (n a : ℕ) → length (passed p n a) ≡ n → passed p n a ≡ range_with_len a n
+pub passed-all : (p : ℕ → Bool) (n a : ℕ) → length (passed p n a) ≡ n → passed p n a ≡ range_with_len a n
 unfolding passed
 passed-all p zero a all = refl
 passed-all p (suc n) a all =

@@ -6,6 +6,7 @@ ghost use Rattle.mb_block.specs.Block.{filled};
 
 use crate::fault::MissFault;
 use crate::heard::Heard;
+use crate::symbol::put_symbol;
 use crate::way::Way;
 use mb_base::{Gate, Memory};
 use mb_bits::{flip_bit, has_bit, words_for};
@@ -189,24 +190,6 @@ fn clear_places(
         }
     }
     Ok(places)
-}
-
-/// Copies a symbol to its place, with zeros for the bytes that it lacks.
-fn put_symbol(symbols: &mut [u8], at: usize, symbol: usize, bytes: &[u8])
-    requires place { at + symbol ≤ length symbols.old }
-    requires most { length bytes.now ≤ symbol }
-    ensures { symbols.new ≡ take at symbols.old ++ (filled symbol bytes.now ++ drop (at + symbol) symbols.old) }
-{
-    fill_symbol(&mut symbols[at..at + symbol], bytes);
-}
-
-/// Copies a symbol, with zeros for the bytes that it lacks.
-fn fill_symbol(symbol: &mut [u8], bytes: &[u8])
-    requires { length bytes.now ≤ length symbol.old }
-    ensures { symbol.new ≡ filled (length symbol.old) bytes.now }
-{
-    symbol[..bytes.len()].copy_from_slice(bytes);
-    symbol[bytes.len()..].fill(0);
 }
 
 // Blocks are sent to workers and read by several at once, so it is checked here that they can be.

@@ -5,12 +5,15 @@
 mod block;
 #[cfg(test)]
 mod block_tests;
+mod blocks;
 mod fault;
 mod heard;
 mod laws;
+mod symbol;
 mod way;
 
 pub use block::BlockRx;
+pub use blocks::BlocksRx;
 pub use fault::{CodeFault, MissFault};
 pub use heard::Heard;
 pub use laws::blocks_are_as_sent;
