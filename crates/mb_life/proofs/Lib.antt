@@ -1,5 +1,3 @@
-pub mod OpenLemmas
 pub mod RunLemmas
-pub mod BlocksLemmas
-pub mod SolveLemmas
-pub mod HeldLemmas
+pub mod FileLemmas
+pub mod TakeLemmas

@@ -1,12 +1,16 @@
 -- A payload's symbols, one by one.
-use Rattle.std.proofs.Common.{◌≡◌, ℕ, zero, suc, ◌+◌, ◌-◌, ◌<◌, ◌≤◌, min, List, [], ◌∷◌, length, take, drop, refl, sym, ◌∙◌, ap, ap₂, arith}
+use Rattle.std.proofs.Common.{◌≡◌, ℕ, zero, suc, ◌+◌, ◌-◌, ◌<◌, ◌≤◌, min, List, [], ◌∷◌, length, get_or, set, take, drop, refl, sym, ◌∙◌, ap, ap₂, arith}
 use Rattle.std.proofs.lemmas.Grind.{common_steps}
+use Rattle.std.proofs.lemmas.List.{get_or-set_same, set-set, set-get_or}
 use Rattle.mb_block.specs.declared.way.Way.{Way}
-use Rattle.mb_block.specs.Block.{Block, Pair, filled, heard_as, hear, keep_if}
+use Rattle.mb_block.specs.declared.way.Way.TheVariants.{NoCode}
+use Rattle.mb_block.specs.Block.{Pair, filled, heard_as, hear, keep_if}
+use Rattle.mb_block.specs.Blocks.{Blocks, way_at, kept_at, AreEachBlocks, AreWhole}
 use Rattle.mb_block.specs.declared.heard.Heard.{Heard}
 use Rattle.mb_block.specs.declared.heard.Heard.TheVariants.{Kept, Determined, OutOfRange}
 use Rattle.mb_block.proofs.KeptLemmas.{length-with_pair}
 use Rattle.mb_life.specs.Life.{pairs_from, hear_pairs}
+use Rattle.mb_life.specs.Hearing.{kept_of}
 
 take-min : (t m : ℕ) (bytes : List ℕ) → m ≡ min t (length bytes) → take t bytes ≡ take m bytes
 take-min t m bytes is = rw is (grind (arith, common_steps))
@@ -34,11 +38,6 @@ pub pairs-none : (w : Way) (t esi : ℕ) (rest : List ℕ) (kept : List Pair) �
 unfolding pairs_from
 pairs-none w t esi rest kept = refl
 
-pub block-is : (b old : Block) (kept : List Pair) → b.way ≡ old.way → b.symbol ≡ old.symbol → b.kept ≡ kept → b ≡ record old { kept = kept }
-block-is b old kept way symbol is =
-    ap₂ (λ (w : Way) (t : ℕ). let r : Block = record { way = w; symbol = t; kept = b.kept } in r) way symbol
-    ∙ ap (λ (k : List Pair). let r : Block = record old { kept = k } in r) is
-
 -- ---- how many are kept
 
 pub length-pairs_from : (n t esi : ℕ) (bytes : List ℕ) → length (pairs_from n t esi bytes) ≡ n
@@ -46,19 +45,95 @@ unfolding pairs_from
 length-pairs_from zero t esi bytes = refl
 length-pairs_from (suc n) t esi bytes = ap suc (length-pairs_from n t (esi + 1) (drop t bytes))
 
--- so many as before at least, and one more at most
-pub record IsMore (old new : ℕ) (more : ℕ) : Type 0 where
-  pub least : old ≤ new
-  pub most : new ≤ old + more
+keep-more : (h : Heard) (kept : List Pair) (pair : Pair) → kept_of h + length kept ≡ length (keep_if h kept pair)
+keep-more Kept kept pair = omega (arith, length-with_pair pair kept)
+keep-more Determined kept pair = omega arith
+keep-more OutOfRange kept pair = omega arith
 
-keep-more : (h : Heard) (kept : List Pair) (pair : Pair) → IsMore (length kept) (length (keep_if h kept pair)) 1
-keep-more Kept kept pair = record { least = omega (arith, length-with_pair pair kept); most = omega (arith, length-with_pair pair kept) }
-keep-more Determined kept pair = record { least = omega arith; most = omega arith }
-keep-more OutOfRange kept pair = record { least = omega arith; most = omega arith }
+-- a symbol that is kept is one more
+pub hear-more : (w : Way) (kept : List Pair) (pair : Pair) → kept_of (heard_as w kept pair.esi) + length kept ≡ length (hear w kept pair)
+hear-more w kept pair = keep-more (heard_as w kept pair.esi) kept pair
 
-pub hear-more : (w : Way) (pairs kept : List Pair) → IsMore (length kept) (length (hear_pairs w kept pairs)) (length pairs)
-hear-more w [] kept = record { least = omega arith; most = omega arith }
-hear-more w (pair ∷ pairs) kept =
-    let one = keep-more (heard_as w kept pair.esi) kept pair in
-    let others = hear-more w pairs (hear w kept pair) in
-    record { least = omega (arith, one.least, others.least); most = omega (arith, one.most, others.most) }
+-- ---- one symbol of a payload
+
+-- the blocks of a file before and behind a symbol of a payload, and how many symbols were kept so far
+pub record IsHearing (first now : Blocks) (sbn count left t from next kept : ℕ) (payload rest : List ℕ) : Type 0 where
+  pub sizes : now.sizes ≡ first.sizes
+  pub symbol : now.symbol ≡ first.symbol
+  pub whole : AreWhole now
+  pub within : next + left ≤ 65536
+  pub lengths : kept + length (kept_at first sbn) ≡ length (kept_at now sbn)
+  pub few : kept + left ≤ count
+  pub run : set now.kept sbn (hear_pairs (way_at first sbn) (kept_at now sbn) (pairs_from left t next rest))
+      ≡ set first.kept sbn (hear_pairs (way_at first sbn) (kept_at first sbn) (pairs_from count t from payload))
+
+kept-length : (t : ℕ) (sizes : List ℕ) (kept : List (List Pair)) → AreEachBlocks t sizes kept → length kept ≡ length sizes
+unfolding AreEachBlocks
+kept-length t [] [] are = refl
+kept-length t [] (pairs ∷ kept) are = absurd are
+kept-length t (k ∷ sizes) [] are = absurd are
+kept-length t (k ∷ sizes) (pairs ∷ kept) are = ap suc (kept-length t sizes kept are.1)
+
+pub length-kept : (b : Blocks) → AreWhole b → length b.kept ≡ length b.sizes
+length-kept b are = kept-length b.symbol b.sizes b.kept are
+
+kept_of-le : (h : Heard) → kept_of h ≤ 1
+kept_of-le Kept = omega arith
+kept_of-le Determined = omega arith
+kept_of-le OutOfRange = omega arith
+
+pub hearing-start : (first : Blocks) (sbn count t from next : ℕ) (payload : List ℕ) → AreWhole first → from + count ≤ 65536 → next ≡ from
+    → IsHearing first first sbn count count t from next 0 payload payload
+hearing-start first sbn count t from next payload whole within same = record {
+  sizes = refl;
+  symbol = refl;
+  whole = whole;
+  within = omega (arith, within, same);
+  lengths = omega arith;
+  few = omega arith;
+  run = ap (λ (n : ℕ). set first.kept sbn (hear_pairs (way_at first sbn) (kept_at first sbn) (pairs_from count t n payload))) same;
+}
+
+pub hearing-step : (first now new : Blocks) (sbn count left t from next kept more m : ℕ) (payload rest front back : List ℕ) (h : Heard)
+    → IsHearing first now sbn count left t from next kept payload rest → sbn < length first.sizes → first.symbol ≡ t → 0 < left → m ≡ min t (length rest)
+    → front ≡ take m rest → back ≡ drop m rest → h ≡ heard_as (way_at now sbn) (kept_at now sbn) next → more ≡ kept_of h
+    → new ≡ record now { kept = set now.kept sbn (hear (way_at now sbn) (kept_at now sbn) (record { esi = next; symbol = filled now.symbol front })) }
+    → AreWhole new → IsHearing first new sbn count (left - 1) t from (next + 1) (kept + more) payload back
+hearing-step first now new sbn count left t from next kept more m payload rest front back h i there symbol some m_is front_is back_is heard more_is is whole =
+    let w : Way = way_at first sbn in
+    let way : way_at now sbn ≡ w = ap (λ (sizes : List ℕ). NoCode (get_or sizes sbn 0)) i.sizes in
+    let t_is : now.symbol ≡ t = i.symbol ∙ symbol in
+    let pair : Pair = record { esi = next; symbol = filled t front } in
+    let heard_pairs : List Pair = hear w (kept_at now sbn) pair in
+    let pair_is : hear (way_at now sbn) (kept_at now sbn) (record { esi = next; symbol = filled now.symbol front }) ≡ heard_pairs =
+    ap₂ (λ (v : Way) (n : ℕ). hear v (kept_at now sbn) (record { esi = next; symbol = filled n front })) way t_is in
+    let kept_is : new.kept ≡ set now.kept sbn heard_pairs = ap (λ (b : Blocks). b.kept) is ∙ ap (set now.kept sbn) pair_is in
+    let within : sbn < length now.kept = omega (arith, length-kept now i.whole, there, ap (λ (sizes : List ℕ). length sizes) i.sizes) in
+    let own : kept_at new sbn ≡ heard_pairs = ap (λ (ks : List (List Pair)). get_or ks sbn []) kept_is ∙ get_or-set_same now.kept sbn heard_pairs [] within in
+    let one : kept_of (heard_as w (kept_at now sbn) next) + length (kept_at now sbn) ≡ length heard_pairs = hear-more w (kept_at now sbn) pair in
+    let count_is : more ≡ kept_of (heard_as w (kept_at now sbn) next) =
+    more_is ∙ ap kept_of (heard ∙ ap (λ (v : Way). heard_as v (kept_at now sbn) next) way) in
+    let length_is : length (kept_at new sbn) ≡ length heard_pairs = ap (λ (ps : List Pair). length ps) own in
+    let at_most : more ≤ 1 = omega (arith, more_is, kept_of-le h) in
+    let step = pairs-step left t next m rest front back some m_is front_is back_is in
+    record {
+      sizes = ap (λ (b : Blocks). b.sizes) is ∙ i.sizes;
+      symbol = ap (λ (b : Blocks). b.symbol) is ∙ i.symbol;
+      whole = whole;
+      within = omega (arith, i.within, some);
+      lengths = omega (arith, i.lengths, one, count_is, length_is);
+      few = omega (arith, i.few, at_most, some);
+      run = ap₂ (λ (ks : List (List Pair)) (ps : List Pair). set ks sbn (hear_pairs w ps (pairs_from (left - 1) t (next + 1) back))) kept_is own
+          ∙ set-set now.kept sbn heard_pairs (hear_pairs w heard_pairs (pairs_from (left - 1) t (next + 1) back))
+          ∙ sym (ap (λ (ps : List Pair). set now.kept sbn (hear_pairs w (kept_at now sbn) ps)) step)
+          ∙ i.run;
+    }
+
+pub hearing-end : (first now : Blocks) (sbn count left t from next kept : ℕ) (payload rest : List ℕ) → IsHearing first now sbn count left t from next kept payload rest → left ≡ 0
+    → now ≡ record first { kept = set first.kept sbn (hear_pairs (way_at first sbn) (kept_at first sbn) (pairs_from count t from payload)) }
+unfolding pairs_from
+hearing-end first now sbn count left t from next kept payload rest i none =
+    let last : set now.kept sbn (hear_pairs (way_at first sbn) (kept_at now sbn) (pairs_from left t next rest)) ≡ now.kept =
+    ap (λ (n : ℕ). set now.kept sbn (hear_pairs (way_at first sbn) (kept_at now sbn) (pairs_from n t next rest))) none ∙ set-get_or now.kept sbn [] in
+    ap₂ (λ (sizes : List ℕ) (n : ℕ). let b : Blocks = record { sizes = sizes; symbol = n; kept = now.kept } in b) i.sizes i.symbol
+    ∙ ap (λ (ks : List (List Pair)). let b : Blocks = record first { kept = ks } in b) (sym last ∙ i.run)

@@ -1,14 +1,15 @@
 -- The life of a file: one TOI under one description, what was heard of it, and the file that follows.
-use Rattle.std.specs.Prelude.{ℕ, zero, suc, max, ◌+◌, ◌-◌, ◌==◌, ◌&&◌, Bool, true, false, not, bytes_eq, if◌then◌else◌, List, [], ◌∷◌, length, take, drop, map, fold, slice_index_or, slice_set, Option, Some, None, is_some, unwrap_or}
+use Rattle.std.specs.Prelude.{ℕ, zero, suc, max, ◌+◌, ◌-◌, ◌*◌, ◌==◌, ◌&&◌, Bool, true, false, not, bytes_eq, if◌then◌else◌, List, [], ◌∷◌, length, take, drop, map, fold, slice_index_or, slice_set, Option, Some, None, is_some, unwrap_or}
 use Rattle.std.specs.List.{list_all}
 use Rattle.md5.specs.Md5.{md5}
-use Rattle.mb_geom.specs.Description.{Description, block_sizes, block_size}
+use Rattle.mb_geom.specs.Partition.{ceiling}
+use Rattle.mb_geom.specs.Description.{Description, block_sizes, block_size, symbols, plain}
 use Rattle.mb_geom.specs.SourceSymbol.{joined_file}
 use Rattle.mb_geom.specs.declared.desc.Scheme.{Scheme}
 use Rattle.mb_block.specs.declared.way.Way.{Way}
 use Rattle.mb_block.specs.declared.way.Way.TheVariants as way
 use Rattle.mb_block.specs.Way.{way_of, size_of}
-use Rattle.mb_block.specs.Block.{Pair, filled, hear, is_complete, sources, buffer_of}
+use Rattle.mb_block.specs.Block.{Pair, filled, hear, is_complete, sources}
 
 pub record Life : Type 0 where
   pub toi : ℕ
@@ -113,13 +114,14 @@ missing_in (w ∷ others) (kept ∷ blocks) = (size_of w - length kept) + missin
 abbrev pub missing : Life → ℕ
 missing life = if life.done then 0 else missing_in (ways life.desc) life.kept
 
--- the bytes of the buffers of a block of which something is kept
-abbrev pub buffer_for : ℕ → Way → List Pair → ℕ
-buffer_for t w [] = 0
-buffer_for t w (pair ∷ kept) = buffer_of w t
+-- nothing is kept of any of the blocks
+abbrev pub is_unheard : List (List Pair) → Bool
+is_unheard blocks = list_all (λ (pairs : List Pair). length pairs == 0) blocks
 
--- the bytes of the buffers of all such blocks, whose symbols have t bytes
-unfoldable pub buffers_in : ℕ → List Way → List (List Pair) → ℕ
-buffers_in t [] blocks = 0
-buffers_in t (w ∷ others) [] = 0
-buffers_in t (w ∷ others) (kept ∷ blocks) = buffer_for t w kept + buffers_in t others blocks
+-- the bytes of the buffers of a file: of all its symbols, and of a bit for each, in words of 64
+abbrev pub buffer_of_file : Description → ℕ
+buffer_of_file d = plain d + 8 * ceiling (symbols d) 64
+
+-- there are none before something is kept
+abbrev pub held : Life → ℕ
+held life = if is_unheard life.kept then 0 else buffer_of_file life.desc

@@ -1,44 +1,30 @@
--- How a life stands in memory: there are places for its blocks once a symbol was heard, and none once the file was
--- handed out. In its place a block is there once a symbol of it was heard.
-use Rattle.std.specs.Prelude.{◌≡◌, ℕ, ◌+◌, ◌<◌, Bool, true, false, if◌then◌else◌, List, [], ◌∷◌, length, map, slice_index_or, Option, Some, None, ⊤}
-use Rattle.mb_geom.specs.Description.{Description, IsGood, block_count}
-use Rattle.mb_block.specs.declared.way.Way.{Way}
-use Rattle.mb_block.specs.Block.{Block, Pair, is_complete}
-use Rattle.mb_life.specs.Life.{has_ways, ways, way_in, nothing_kept}
+-- How a life stands in memory: the blocks of its file are there once a symbol was heard, and no more once the file was
+-- handed out.
+use Rattle.std.specs.Prelude.{◌≡◌, ℕ, Bool, true, if◌then◌else◌, List, [], Option, Some, None, IfSome}
+use Rattle.mb_geom.specs.Description.{Description, IsGood, block_sizes}
+use Rattle.mb_block.specs.Block.{Pair}
+use Rattle.mb_block.specs.Blocks.{Blocks, AreWhole, joined_symbols}
+use Rattle.mb_life.specs.Life.{has_ways, ways, nothing_kept, missing_in}
 
--- what is kept of a block
-abbrev pub kept_of : Option Block → List Pair
-kept_of None = []
-kept_of (Some block) = block.kept
+-- the blocks of a file of this description
+pub record IsFileOf (d : Description) (f : Blocks) : Type 0 where
+  pub sizes : f.sizes ≡ block_sizes d
+  pub symbol : f.symbol ≡ d.symbol
+  pub whole : AreWhole f
 
-abbrev pub kept_seen : Bool → Description → List (Option Block) → List (List Pair)
-kept_seen placed d blocks = if placed then map kept_of blocks else nothing_kept d
+-- what is kept of each block
+abbrev pub kept_seen : Description → Option Blocks → List (List Pair)
+kept_seen d None = nothing_kept d
+kept_seen d (Some f) = f.kept
 
--- a block that is there is one of this way
-abbrev pub IsBlockOf : Way → ℕ → Option Block → Type 0
-IsBlockOf w t None = ⊤
-IsBlockOf w t (Some block) = (block.way ≡ w) × (block.symbol ≡ t)
-
--- the blocks that there are, from the first on, are of their ways
-abbrev pub ArePartly : Description → List (Option Block) → Type 0
-ArePartly d blocks = (sbn : ℕ) → sbn < length blocks → IsBlockOf (way_in d sbn) d.symbol (slice_index_or blocks sbn None)
-
--- how many blocks aren't complete
-unfoldable pub open_in : List Way → List (List Pair) → ℕ
-open_in [] blocks = 0
-open_in (w ∷ others) [] = 0
-open_in (w ∷ others) (kept ∷ blocks) = (if is_complete w kept then 0 else 1) + open_in others blocks
-
--- the blocks of a file, each in its place
-pub record AreBlocks (d : Description) (blocks : List (Option Block)) (open_blocks : ℕ) : Type 0 where
-  pub number : length blocks ≡ block_count d
-  pub each : (sbn : ℕ) → sbn < block_count d → IsBlockOf (way_in d sbn) d.symbol (slice_index_or blocks sbn None)
-  pub counted : open_blocks ≡ open_in (ways d) (map kept_of blocks)
-
-pub record Stands (d : Description) (blocks : List (Option Block)) (open_blocks : ℕ) (placed done : Bool) : Type 0 where
+pub record Stands (d : Description) (file : Option Blocks) (missing : ℕ) (done : Bool) : Type 0 where
   pub good : IsGood d
   pub has_way : has_ways d ≡ true
-  pub blocks_are : placed ≡ true → AreBlocks d blocks open_blocks
-  pub nothing : placed ≡ false → blocks ≡ []
-  pub unheard : placed ≡ false → done ≡ false → open_blocks ≡ block_count d
-  pub freed : done ≡ true → placed ≡ false
+  pub file_is : IfSome file (IsFileOf d)
+  pub counted : missing ≡ (if done then 0 else missing_in (ways d) (kept_seen d file))
+  pub freed : done ≡ true → file ≡ None
+
+-- the symbols that are kept, block behind block
+abbrev pub symbols_in : Option Blocks → List ℕ
+symbols_in None = []
+symbols_in (Some f) = joined_symbols f.kept

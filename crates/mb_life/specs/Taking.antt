@@ -1,5 +1,5 @@
 -- What handing a ready life out gives.
-use Rattle.std.specs.Prelude.{◌≡◌, ℕ, true, false, List, Option, Some}
+use Rattle.std.specs.Prelude.{◌≡◌, ℕ, Bool, true, false, List, Option, Some}
 use Rattle.md5.specs.Md5.{md5}
 use Rattle.mb_life.specs.Life.{Life, has_digest, bytes_of, is_damaged}
 use Rattle.mb_life.specs.declared.taken.Taken.{Taken}
@@ -14,3 +14,8 @@ IsTaken life (Damaged given found) = (is_damaged life ≡ true) × (life.desc.md
 abbrev pub IsJudged : Option (List ℕ) → List ℕ → List ℕ → Taken → Type 0
 IsJudged given at bytes (File location file) = (has_digest given bytes ≡ true) × (location ≡ at) × (file ≡ bytes)
 IsJudged given at bytes (Damaged expected found) = (has_digest given bytes ≡ false) × (given ≡ Some expected) × (found ≡ md5 bytes)
+
+-- whether it is the file
+abbrev pub is_file : Taken → Bool
+is_file (File location bytes) = true
+is_file (Damaged given found) = false

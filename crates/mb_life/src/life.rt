@@ -1,21 +1,16 @@
-ghost use Rattle.std.specs.Prelude.{◌≡◌, ℕ, ◌+◌, ◌-◌, ◌*◌, ◌<◌, ◌≤◌, ◌==◌, ◌&&◌, ◌++◌, not, if◌then◌else◌, true, false, length, sum_by, take, drop, map, replicate, IfOk, IfSome, IsSome, OnOk, OnErr, None, vec_len, vec_capacity};
-ghost use Rattle.std.specs.List.{concat};
+ghost use Rattle.std.specs.Prelude.{◌≡◌, ℕ, ◌+◌, ◌-◌, ◌*◌, ◌<◌, ◌≤◌, ◌^◌, ◌==◌, ◌&&◌, not, if◌then◌else◌, true, false, [], length, take, map, slice_index_or, slice_set, IfOk, IfSome, OnOk, OnErr};
 ghost use Rattle.md5.specs.Md5.{md5};
 ghost use Rattle.mb_geom.specs.Partition.{ceiling};
-ghost use Rattle.mb_geom.specs.Description.{IsGood, block_count, block_sizes, plain, equations};
-ghost use Rattle.mb_geom.specs.SourceSymbol.{sub_sizes, joined_block};
-ghost use Rattle.mb_block.specs.Way.{size_of};
-ghost use Rattle.mb_block.specs.Block.{IsWay, IsBlock, is_complete, sources, buffer_of};
-ghost use Rattle.mb_block.specs.declared.way.Way.TheVariants.{NoCode};
-ghost use Rattle.mb_block.specs.declared.way.Way.{Way};
-ghost use Rattle.mb_life.specs.Life.{has_ways, way_in, ways, nothing_kept, start_life, prolong, pairs_from, hear_pairs, hear_in_block, kept_in, has_digest, is_wrongly_empty, is_ready, blocks_of, missing_in, missing, buffer_for, buffers_in, bytes_of, hand_out};
-ghost use Rattle.mb_life.specs.Hearing.{CanHear, hear_payload};
-ghost use Rattle.mb_life.specs.LifeView.{kept_of, IsBlockOf, ArePartly, AreBlocks};
-ghost use Rattle.mb_life.specs.Taking.{IsTaken, IsJudged};
+ghost use Rattle.mb_geom.specs.Description.{IsGood, block_count, plain, equations};
+ghost use Rattle.mb_block.specs.Blocks.{way_at, kept_at, AreWhole};
+ghost use Rattle.mb_life.specs.Life.{has_ways, ways, start_life, prolong, pairs_from, hear_pairs, kept_in, has_digest, is_wrongly_empty, is_ready, missing_in, missing, held, hand_out};
+ghost use Rattle.mb_life.specs.Hearing.{CanHear, hear_payload, kept_of, heard_in};
+ghost use Rattle.mb_life.specs.LifeView.{kept_seen, symbols_in, IsFileOf};
+ghost use Rattle.mb_life.specs.Taking.{IsTaken, IsJudged, is_file};
 
 use crate::taken::Taken;
 use mb_base::{Bytes, Gate, Memory};
-use mb_block::{BlockRx, Way};
+use mb_block::{BlocksRx, Heard};
 use mb_geom::{Desc, Scheme};
 use md5::{Digest, Md5};
 use std::alloc::Global;
@@ -46,12 +41,10 @@ pub struct Life {
     desc: Desc,
     /// The NTP second up to which it stands.
     expires: u64,
-    /// What was heard of each block. Before the first symbol, and once the file was handed out, there is none.
-    blocks: Vec<Option<BlockRx>>,
-    /// Whether there is a place for each block.
-    placed: bool,
-    /// How many blocks are not complete.
-    open_blocks: usize,
+    /// What was heard of its blocks: nothing before the first symbol, and none once the file was handed out.
+    file: Option<BlocksRx>,
+    /// How many symbols are missing of a file that was not handed out.
+    missing: u64,
     done: bool,
 }
 
@@ -62,274 +55,116 @@ impl Model for Life {
 
     ghost use Rattle.mb_life.specs.LifeView.{kept_seen, Stands};
 
-    ghost view = { λ l. record { toi = l.toi; desc = l.desc; expires = l.expires; kept = kept_seen l.placed l.desc l.blocks.items; done = l.done } };
+    ghost view = { λ l. record { toi = l.toi; desc = l.desc; expires = l.expires; kept = kept_seen l.desc l.file; done = l.done } };
 
-    ghost invariant = { λ l. Stands l.desc l.blocks.items l.open_blocks l.placed l.done };
+    ghost invariant = { λ l. Stands l.desc l.file l.missing l.done };
 }
 
-/// Hears so many symbols of a payload in a block that stands.
-fn hear_run(block: &mut BlockRx, way: &Way, symbol: u16, esi: u16, count: usize, payload: &[u8])
-    requires way { way.now ≡ block.old.way }
-    requires symbol { block.old.symbol ≡ symbol }
+/// How many symbols are kept more.
+fn kept_of(heard: Heard) -> u32
+    ensures { result ≡ kept_of heard }
+{
+    match heard {
+        Heard::Kept => 1,
+        Heard::Determined | Heard::OutOfRange => 0,
+    }
+}
+
+/// Hears so many symbols of a payload in a block, and answers how many were kept.
+fn hear_run(
+    file: &mut BlocksRx,
+    sbn: u16,
+    symbol: u16,
+    esi: u16,
+    count: usize,
+    payload: &[u8],
+) -> u32
+    requires whole { AreWhole file.old }
+    requires block { sbn < length file.old.sizes }
+    requires symbol { file.old.symbol ≡ symbol }
     requires within { esi + count ≤ 65536 }
-    ensures { block.new ≡ record block.old { kept = hear_pairs way.now block.old.kept (pairs_from count symbol esi payload.now) } }
+    ensures blocks { file.new ≡ record file.old { kept = slice_set file.old.kept sbn (hear_pairs (way_at file.old sbn) (kept_at file.old sbn) (pairs_from count symbol esi payload.now)) } }
+    ensures kept { result + length (kept_at file.old sbn) ≡ length (kept_at file.new sbn) }
+    ensures few { result ≤ count }
+    ensures whole { AreWhole file.new }
 {
     let symbol = usize::from(symbol);
     let mut next = usize::from(esi);
     let mut left = count;
     let mut rest = payload;
+    let mut kept = 0;
     while left > 0 {
         let (bytes, others) = rest.split_at(symbol.min(rest.len()));
-        block.hear(way, next as u16, bytes);
+        kept += kept_of(file.hear(sbn, next as u16, bytes));
         rest = others;
         next += 1;
         left -= 1;
     }
+    kept
 }
 
-/// Takes a block out of its place, or starts one where nothing of it was heard.
-fn take_block(
+/// Takes the blocks of a file out of their place, or starts them where nothing was heard.
+fn take_file(
     alloc: Global,
-    slot: &mut Option<BlockRx>,
-    way: &Way,
-    symbol: u16,
-) -> Result<BlockRx, Memory>
-    requires is_way { IsWay way.now }
-    requires some { 0 < symbol }
-    requires block { IsBlockOf way.now symbol slot.old }
-    ensures way { IfOk result (λ b. b.way ≡ way.now) }
-    ensures symbol { IfOk result (λ b. b.symbol ≡ symbol) }
-    ensures kept { IfOk result (λ b. b.kept ≡ kept_of slot.old) }
-    ensures refused { OnErr result (slot.new ≡ slot.old) }
+    file: &mut Option<BlocksRx>,
+    desc: &Desc,
+) -> Result<BlocksRx, Memory>
+    requires file { IfSome file.old (IsFileOf desc.now) }
+    ensures file { IfOk result (IsFileOf desc.now) }
+    ensures kept { IfOk result (λ f. f.kept ≡ kept_seen desc.now file.old) }
+    ensures refused { OnErr result (file.new ≡ file.old) }
 {
-    match slot.take() {
-        Some(block) => Ok(block),
-        None => BlockRx::start(alloc, way, symbol),
+    match file.take() {
+        Some(blocks) => Ok(blocks),
+        None => BlocksRx::start(alloc, desc),
     }
 }
 
-/// Hears the symbols of a payload in a block, which is started where nothing of it was heard.
+/// Hears the symbols of a payload in a block of a file, whose blocks are started where nothing was heard.
 fn hear_in(
     alloc: Global,
-    slot: &mut Option<BlockRx>,
-    way: &Way,
-    symbol: u16,
+    file: &mut Option<BlocksRx>,
+    desc: &Desc,
+    sbn: u16,
     esi: u16,
     payload: &[u8],
 ) -> Result<News, Memory>
-    requires is_way { IsWay way.now }
-    requires some { 0 < symbol }
-    requires block { IsBlockOf way.now symbol slot.old }
-    requires within { esi + ceiling (length payload.now) symbol ≤ 65536 }
-    ensures block { OnOk result (IsBlockOf way.now symbol slot.new) }
-    ensures heard { OnOk result (kept_of slot.new ≡ hear_pairs way.now (kept_of slot.old) (pairs_from (ceiling (length payload.now) symbol) symbol esi payload.now)) }
-    ensures kept { IfOk result (λ n. n.kept ≡ length (kept_of slot.new) - length (kept_of slot.old)) }
-    ensures determined { IfOk result (λ n. n.determined ≡ ceiling (length payload.now) symbol - n.kept) }
-    ensures refused { OnErr result (slot.new ≡ slot.old) }
+    requires file { IfSome file.old (IsFileOf desc.now) }
+    requires block { sbn < block_count desc.now }
+    requires some { 0 < desc.now.symbol }
+    requires within { esi + ceiling (length payload.now) desc.now.symbol ≤ 65536 }
+    ensures file { OnOk result (IfSome file.new (IsFileOf desc.now)) }
+    ensures heard { OnOk result (kept_seen desc.now file.new ≡ heard_in desc.now sbn esi payload.now (kept_seen desc.now file.old)) }
+    ensures kept { IfOk result (λ n. n.kept + length (slice_index_or (kept_seen desc.now file.old) sbn []) ≡ length (slice_index_or (kept_seen desc.now file.new) sbn [])) }
+    ensures determined { IfOk result (λ n. n.determined ≡ ceiling (length payload.now) desc.now.symbol - n.kept) }
+    ensures missing { IfOk result (λ n. missing_in (ways desc.now) (kept_seen desc.now file.new) + n.kept ≡ missing_in (ways desc.now) (kept_seen desc.now file.old)) }
+    ensures block { OnOk result (sbn < length (kept_seen desc.now file.old)) }
+    ensures refused { OnErr result (file.new ≡ file.old) }
 {
-    let mut block = take_block(alloc, slot, way, symbol)?;
+    let mut blocks = take_file(alloc, file, desc)?;
+    let symbol = desc.symbol();
     let count = payload.len().div_ceil(usize::from(symbol));
-    let before = block.kept();
-    hear_run(&mut block, way, symbol, esi, count, payload);
-    let kept = block.kept() - before;
-    *slot = Some(block);
+    let kept = hear_run(&mut blocks, sbn, symbol, esi, count, payload);
+    *file = Some(blocks);
     Ok(News {
         kept,
         determined: count as u32 - kept,
     })
 }
 
-/// Whether the block is complete.
-fn is_complete(slot: &Option<BlockRx>) -> bool
-    ensures { (w : Way) (t : ℕ) → IsWay w → IsBlockOf w t slot.now → result ≡ is_complete w (kept_of slot.now) }
+/// The first bytes of the source symbols of a file, each of which was heard.
+fn file_bytes(alloc: Global, file: Option<BlocksRx>, most: usize) -> Vec<u8>
+    requires { IfSome file (λ f. map length f.kept ≡ f.sizes) }
+    ensures { result.items ≡ take most (symbols_in file) }
 {
-    match slot {
-        Some(block) => block.is_complete(),
-        None => false,
-    }
-}
-
-/// How many symbols are kept of a block.
-fn kept_of(slot: &Option<BlockRx>) -> u32
-    ensures exact { result ≡ length (kept_of slot.now) }
-    ensures most { (w : Way) (t : ℕ) → IsBlockOf w t slot.now → result ≤ size_of w }
-{
-    match slot {
-        Some(block) => block.kept(),
-        None => 0,
-    }
-}
-
-/// The bytes of the buffers of a block.
-fn buffered_of(slot: &Option<BlockRx>) -> u64
-    ensures most { (w : Way) (t : ℕ) → IsBlockOf w t slot.now → result ≤ buffer_of w t }
-    ensures least { (w : Way) (t : ℕ) → IsBlockOf w t slot.now → buffer_for t w (kept_of slot.now) ≤ result }
-{
-    match slot {
-        Some(block) => block.buffered(),
-        None => 0,
-    }
-}
-
-/// How many symbols of the blocks are not determined.
-fn missing_among(desc: &Desc, blocks: &[Option<BlockRx>]) -> u64
-    requires few { length blocks.now ≤ block_count desc.now }
-    requires good { IsGood desc.now }
-    requires blocks { ArePartly desc.now blocks.now }
-    ensures { result ≡ missing_in (take (length blocks.now) (ways desc.now)) (map kept_of blocks.now) }
-{
-    let mut missing = 0;
-    for sbn in 0..blocks.len() {
-        missing += u64::from(desc.k_of(sbn as u16) - kept_of(&blocks[sbn]));
-    }
-    missing
-}
-
-/// The bytes of the buffers of the blocks.
-fn buffered_among(desc: &Desc, blocks: &[Option<BlockRx>]) -> u64
-    requires few { length blocks.now ≤ block_count desc.now }
-    requires good { IsGood desc.now }
-    requires blocks { ArePartly desc.now blocks.now }
-    ensures most { result ≤ sum_by (λ k. buffer_of (NoCode k) desc.now.symbol) (take (length blocks.now) (block_sizes desc.now)) }
-    ensures least { buffers_in desc.now.symbol (take (length blocks.now) (ways desc.now)) (map kept_of blocks.now) ≤ result }
-{
-    let mut bytes = 0;
-    for sbn in 0..blocks.len() {
-        bytes += buffered_of(&blocks[sbn]);
-    }
-    bytes
-}
-
-/// Takes in so many blocks of which nothing was heard, for which there is room.
-fn fill(blocks: &mut Vec<Option<BlockRx>>, count: usize)
-    requires none { vec_len blocks.old ≡ 0 }
-    requires room { count ≤ vec_capacity blocks.old }
-    ensures { blocks.new.items ≡ replicate count None }
-{
-    for _ in 0..count {
-        blocks.push_reserved(None);
-    }
-}
-
-/// So many blocks of which nothing was heard. `Memory` where there is no room for them.
-fn no_blocks(alloc: Global, count: usize) -> Result<Vec<Option<BlockRx>>, Memory>
-    ensures { IfOk result (λ blocks. blocks.items ≡ replicate count None) }
-{
-    let mut blocks = Vec::with_capacity(alloc, count)?;
-    fill(&mut blocks, count);
-    Ok(blocks)
-}
-
-/// Makes a place for each block, unless there is one.
-fn place(
-    alloc: Global,
-    blocks: &mut Vec<Option<BlockRx>>,
-    placed: bool,
-    count: usize,
-) -> Result<(), Memory>
-    ensures made { OnOk result (blocks.new.items ≡ (if placed then blocks.old.items else replicate count None)) }
-    ensures refused { OnErr result (blocks.new ≡ blocks.old) }
-{
-    if !placed {
-        *blocks = no_blocks(alloc, count)?;
-    }
-    Ok(())
-}
-
-/// Whether a file is ready that was not handed out yet, where so many of its blocks are not complete.
-fn is_ready_with(desc: &Desc, done: bool, open_blocks: usize) -> bool
-    ensures { result ≡ (not done && (not (is_wrongly_empty desc.now) && (open_blocks == 0))) }
-{
-    !done && !is_wrongly_empty(desc) && open_blocks == 0
-}
-
-/// How many blocks are not complete once one of them was heard.
-fn reopened(open_blocks: usize, was_complete: bool, is_complete: bool) -> usize
-    requires most { open_blocks ≤ 65536 }
-    requires least { (if was_complete then 0 else 1) ≤ open_blocks }
-    ensures { result + (if was_complete then 0 else 1) ≡ open_blocks + (if is_complete then 0 else 1) }
-{
-    match (was_complete, is_complete) {
-        (false, true) => open_blocks - 1,
-        (true, false) => open_blocks + 1,
-        (_, _) => open_blocks,
-    }
-}
-
-/// Writes the source symbols of a block that is complete from a place of `out` on, and answers where they end.
-fn solve_block<R: Threads + Sync, G: Gate>(
-    rt: &R,
-    slot: &mut Option<BlockRx>,
-    workers: u32,
-    gate: &G,
-    out: &mut [u8],
-    at: usize,
-) -> usize
-    requires there { IsSome slot.old }
-    requires workers { (1 ≤ workers) × (workers ≤ 64) }
-    requires complete { IfSome slot.old (λ b. is_complete b.way b.kept ≡ true) }
-    requires within { IfSome slot.old (λ b. at + size_of b.way * b.symbol ≤ length out.old) }
-    ensures end { IfSome slot.old (λ b. result ≡ at + size_of b.way * b.symbol) }
-    ensures length { IfSome slot.old (λ b. length (concat (sources b.way b.kept)) ≡ size_of b.way * b.symbol) }
-    ensures out { IfSome slot.old (λ b. out.new ≡ take at out.old ++ (concat (sources b.way b.kept) ++ drop result out.old)) }
-    ensures is_block { IfSome slot.old IsBlock }
-    ensures block { slot.new ≡ slot.old }
-{
-    match slot {
-        Some(block) => {
-            let way = block.way();
-            let _kept = block.kept();
-            let end = at + way.size() as usize * usize::from(block.symbol());
-            block.solve(rt, &way, workers, gate, &mut out[at..end]);
-            end
+    match file {
+        Some(blocks) => {
+            let mut bytes = blocks.into_bytes();
+            bytes.truncate(most);
+            bytes
         }
-        None => at,
+        None => Vec::new(alloc),
     }
-}
-
-/// Writes the source symbols of all blocks, each of which is complete.
-fn solve_all<R: Threads + Sync, G: Gate>(
-    rt: &R,
-    desc: &Desc,
-    blocks: &mut [Option<BlockRx>],
-    workers: u32,
-    gate: &G,
-    out: &mut [u8],
-)
-    requires good { IsGood desc.now }
-    requires ways { has_ways desc.now ≡ true }
-    requires blocks { AreBlocks desc.now blocks.old 0 }
-    requires workers { (1 ≤ workers) × (workers ≤ 64) }
-    requires out { length out.old ≡ plain desc.now }
-    ensures out { out.new ≡ concat (map (joined_block (sub_sizes desc.now)) (blocks_of (ways desc.now) (map kept_of blocks.old))) }
-    ensures blocks { blocks.new ≡ blocks.old }
-{
-    let mut at = 0;
-    for sbn in 0..blocks.len() {
-        at = solve_block(rt, &mut blocks[sbn], workers, gate, out, at);
-    }
-}
-
-/// The bytes of the file of whose blocks each is complete.
-fn file_bytes<R: Threads + Sync, G: Gate>(
-    rt: &R,
-    alloc: Global,
-    desc: &Desc,
-    blocks: &mut [Option<BlockRx>],
-    workers: u32,
-    gate: &G,
-) -> Result<Vec<u8>, Memory>
-    requires good { IsGood desc.now }
-    requires ways { has_ways desc.now ≡ true }
-    requires blocks { AreBlocks desc.now blocks.old 0 }
-    requires workers { (1 ≤ workers) × (workers ≤ 64) }
-    ensures bytes { IfOk result (λ v. v.items ≡ take desc.now.length (concat (map (joined_block (sub_sizes desc.now)) (blocks_of (ways desc.now) (map kept_of blocks.old))))) }
-    ensures blocks { blocks.new ≡ blocks.old }
-{
-    let mut bytes = vec![in alloc; 0; desc.plain() as usize]?;
-    solve_all(rt, desc, blocks, workers, gate, &mut bytes);
-    bytes.truncate(desc.length() as usize);
-    Ok(bytes)
 }
 
 /// Whether bytes have this digest, where one is given.
@@ -374,21 +209,30 @@ fn judge(given: Option<[u8; 16]>, location: Bytes, bytes: Vec<u8>) -> Taken
     }
 }
 
+/// Whether it is the file that was handed out.
+fn is_file(taken: &Taken) -> bool
+    ensures { result ≡ is_file taken.now }
+{
+    match taken {
+        Taken::File { .. } => true,
+        Taken::Damaged { .. } => false,
+    }
+}
+
 impl Life {
     /// A life of which nothing was heard. It takes no memory: many lives may be described whose symbols never come.
-    pub fn start(alloc: Global, expires: u64, toi: u128, desc: Desc) -> Life
+    pub fn start(expires: u64, toi: u128, desc: Desc) -> Life
         requires { has_ways desc ≡ true }
         ensures { result ≡ start_life expires toi desc }
     {
         let _length = desc.length();
-        let open_blocks = desc.blocks() as usize;
+        let missing = desc.symbols();
         Life {
             toi,
             desc,
             expires,
-            blocks: Vec::new(alloc),
-            placed: false,
-            open_blocks,
+            file: None,
+            missing,
             done: false,
         }
     }
@@ -428,22 +272,8 @@ impl Life {
         self.expires = self.expires.max(expires);
     }
 
-    /// The way of a block.
-    fn way(&self, sbn: u16) -> Way
-        requires { sbn < block_count self.now.desc }
-        ensures way { result ≡ way_in self.now.desc sbn }
-        ensures is_way { IsWay result }
-    {
-        match Way::of(&self.desc, sbn) {
-            Ok(way) => way,
-            Err(_) => Way::NoCode {
-                k: self.desc.k_of(sbn),
-            },
-        }
-    }
-
     /// Hears the symbols of a payload in a block, the first of which has this ESI. It takes memory only for the first
-    /// symbol of all, and for a block of which nothing was heard. After `Memory` it is as before.
+    /// symbol of all, and then for the whole file. After `Memory` it is as before.
     pub fn hear(
         &mut self,
         alloc: Global,
@@ -458,16 +288,8 @@ impl Life {
         ensures determined { IfOk result (λ n. n.determined ≡ ceiling (length payload.now) self.old.desc.symbol - n.kept) }
         ensures refused { OnErr result (self.new ≡ self.old) }
     {
-        let way = self.way(sbn);
-        let symbol = self.desc.symbol();
-        let count = self.desc.blocks() as usize;
-        place(alloc, &mut self.blocks, self.placed, count)?;
-        self.placed = true;
-        let slot = &mut self.blocks[usize::from(sbn)];
-        let was_complete = is_complete(slot);
-        let news = hear_in(alloc, slot, &way, symbol, esi, payload)?;
-        let is_complete = is_complete(slot);
-        self.open_blocks = reopened(self.open_blocks, was_complete, is_complete);
+        let news = hear_in(alloc, &mut self.file, &self.desc, sbn, esi, payload)?;
+        self.missing -= u64::from(news.kept);
         Ok(news)
     }
 
@@ -475,25 +297,23 @@ impl Life {
     pub fn missing(&self) -> u64
         ensures { result ≡ missing self.now }
     {
-        if self.done {
-            return 0;
-        }
-        if !self.placed {
-            return self.desc.plain() / u64::from(self.desc.symbol());
-        }
-        missing_among(&self.desc, &self.blocks)
+        self.missing
     }
 
-    /// The bytes of the buffers of its blocks, of those at least of which a symbol is kept.
+    /// The bytes of the buffers of its symbols: those of all symbols, once one of them is kept.
     pub fn buffered(&self) -> u64
         ensures most { result ≤ (if self.now.done then 0 else plain self.now.desc + equations self.now.desc) }
-        ensures least { buffers_in self.now.desc.symbol (ways self.now.desc) self.now.kept ≤ result }
+        ensures least { held self.now ≤ result }
+        ensures small { result ≤ 2 ^ 30 }
     {
-        buffered_among(&self.desc, &self.blocks)
+        match &self.file {
+            Some(blocks) => blocks.buffered(),
+            None => 0,
+        }
     }
 
-    /// Hands the file out, or finds it damaged, and then keeps nothing. All memory is taken before any work: after
-    /// `Memory` the life is as before.
+    /// Hands the file out, or finds it damaged, and then keeps nothing. After `Memory` the life is as before. The gate
+    /// and the workers are for blocks whose symbols need solving.
     pub fn take<R: Threads + Sync, G: Gate>(
         &mut self,
         rt: &R,
@@ -508,52 +328,36 @@ impl Life {
         ensures refused { OnErr result (self.new ≡ self.old) }
     {
         let location = Bytes::from_vec(Vec::from_slice(alloc, self.desc.location())?);
-        let bytes = file_bytes(rt, alloc, &self.desc, &mut self.blocks, workers, gate)?;
-        Ok(self.settle(alloc, location, bytes))
+        Ok(self.settle(alloc, location))
     }
 
     /// Hands the bytes out that follow from its symbols, or finds them damaged, and keeps nothing.
-    fn settle(&mut self, alloc: Global, location: Bytes, bytes: Vec<u8>) -> Taken
+    fn settle(&mut self, alloc: Global, location: Bytes) -> Taken
         requires ready { is_ready self.old ≡ true }
         requires location { location ≡ self.old.desc.location }
-        requires bytes { bytes.items ≡ bytes_of self.old }
         ensures taken { IsTaken self.old result }
         ensures left { self.new ≡ hand_out self.old }
     {
+        let bytes = file_bytes(alloc, self.file.take(), self.desc.length() as usize);
         let taken = judge(self.desc.md5(), location, bytes);
-        if let Taken::Damaged { .. } = taken {
-            self.restart(alloc);
-            return taken;
-        }
-        self.finish(alloc);
+        self.done = is_file(&taken);
+        self.missing = if self.done { 0 } else { self.desc.symbols() };
         taken
-    }
-
-    /// Keeps nothing any more, and is done.
-    fn finish(&mut self, alloc: Global)
-        ensures { self.new ≡ record self.old { kept = nothing_kept self.old.desc; done = true } }
-    {
-        self.blocks = Vec::new(alloc);
-        self.placed = false;
-        self.done = true;
-    }
-
-    /// Keeps nothing of its blocks, and goes on.
-    fn restart(&mut self, alloc: Global)
-        requires { self.old.done ≡ false }
-        ensures { self.new ≡ record self.old { kept = nothing_kept self.old.desc } }
-    {
-        self.blocks = Vec::new(alloc);
-        self.placed = false;
-        self.open_blocks = self.desc.blocks() as usize;
     }
 
     /// Whether each block is complete and the file was not handed out.
     pub fn is_ready(&self) -> bool
         ensures { result ≡ is_ready self.now }
     {
-        is_ready_with(&self.desc, self.done, self.open_blocks)
+        is_ready_with(&self.desc, self.done, self.missing)
     }
+}
+
+/// Whether a file is ready that was not handed out yet, of which so many symbols are missing.
+fn is_ready_with(desc: &Desc, done: bool, missing: u64) -> bool
+    ensures { result ≡ (not done && (not (is_wrongly_empty desc.now) && (missing == 0))) }
+{
+    !done && !is_wrongly_empty(desc) && missing == 0
 }
 
 // Several workers solve blocks of a life at once, so it is checked here that it can be sent and shared.

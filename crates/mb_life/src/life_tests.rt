@@ -4,6 +4,7 @@ use mb_base::{Bytes, OpenGate};
 use mb_geom::{Desc, DescParts, Scheme};
 use std::alloc::Global;
 use std::process::Abort;
+use std::test::Fail;
 use std::thread::Threads;
 
 /// The MD5 of no bytes and of the ten letters.
@@ -15,20 +16,33 @@ const OF_LETTERS: [u8; 16] = [
     0xa9, 0x25, 0x57, 0x69, 0x42, 0xe9, 0x4b, 0x2e, 0xf5, 0x7a, 0x06, 0x61, 0x01, 0xb4, 0x88, 0x76,
 ];
 
+const LETTERS: [&str; 5] = ["abc", "def", "ghi", "jkl", "mno"];
+
 /// A life of a file in symbols of three bytes, and blocks of two symbols at most.
 fn started(rt: &impl Abort, alloc: Global, length: u64, md5: Option<[u8; 16]>) -> Life {
+    started_by(rt, alloc, length, 2, md5)
+}
+
+/// The same with blocks of so many symbols at most.
+fn started_by(
+    rt: &impl Abort,
+    alloc: Global,
+    length: u64,
+    max_block: u32,
+    md5: Option<[u8; 16]>,
+) -> Life {
     let parts = DescParts {
         location: Bytes::from_vec(Vec::new(alloc)),
         content_length: Some(length),
         transfer_length: None,
         encoded: false,
         symbol: Some(3),
-        scheme: Some(Scheme::NoCode { max_block: 2 }),
+        scheme: Some(Scheme::NoCode { max_block }),
         md5,
     };
     let desc = Desc::new(parts).expect(rt, "a good file");
     assert!(rt; has_ways(&desc));
-    Life::start(alloc, 100, 5, desc)
+    Life::start(100, 5, desc)
 }
 
 /// Hears a payload, and says how many symbols were kept, determined, and are missing.
@@ -96,4 +110,29 @@ fn damaged_and_empty_files(rt: HostRuntime) {
     assert!(rt; has_file(&rt, alloc, &mut empty, ""));
     let wrong = started(&rt, alloc, 0, Some(OF_LETTERS));
     assert!(rt; !wrong.is_ready());
+}
+
+#[test]
+fn blocks_go_across_words(rt: HostRuntime) -> Result<(), Fail> {
+    let alloc = rt.alloc();
+    let mut life = started_by(&rt, alloc, 390, 50, None);
+    assert_eq!(rt; life.desc().blocks(), 3);
+    for turn in 0..260u64 {
+        let place = turn * 7 % 130;
+        let (sbn, esi) = if place < 44 {
+            (0, place)
+        } else if place < 87 {
+            (1, place - 44)
+        } else {
+            (2, place - 87)
+        };
+        assert!(rt; life.is_ready() == (turn >= 130));
+        let news = heard(&rt, alloc, &mut life, (sbn, esi as u16), LETTERS[(place % 5) as usize]);
+        let first = u64::from(turn < 130);
+        let want = (first as u32, 1 - first as u32, 130_u64.saturating_sub(turn + 1));
+        assert_eq!(rt; news, want, "at {turn}");
+    }
+    let want = "abcdefghijklmno".repeat(alloc, 26)?;
+    assert!(rt; has_file(&rt, alloc, &mut life, &want));
+    Ok(())
 }

@@ -1,5 +1,5 @@
 use Rattle.std.proofs.Common.{ℕ, ◌==◌, sym, ap, ◌∙◌}
-use Rattle.mb_life.proofs.BlocksLemmas.{has-no_code, has-raptor}
+use Rattle.mb_life.proofs.FileLemmas.{has-no_code, has-raptor}
 use Rattle.mb_life.proofs.life.has_ways.Goals as goal
 
 pub returns-in-NoCode : goal.returns-in-NoCode
