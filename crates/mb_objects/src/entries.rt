@@ -11,7 +11,6 @@ use mb_fdt::{FileEntries, FileEntry};
 use mb_geom::Desc;
 use mb_life::{Life, has_ways};
 use mb_machine::{Entered, InstanceReport};
-use std::alloc::Global;
 
 /// How many lives stand at once at most.
 const LIVES_MAX: usize = 1_024;
@@ -68,7 +67,6 @@ fn is_full(count: usize, need: &Need, desc: &Desc) -> bool
 
 /// Starts a life of a TOI that has none, unless a block size has no row or a limit would be passed.
 fn start_file(
-    alloc: Global,
     lives: &mut Lives,
     need: &mut Need,
     expires: u64,
@@ -89,7 +87,7 @@ fn start_file(
         return Ok(Entered::Full);
     }
     let (plain, equations) = (desc.plain(), desc.equations());
-    let life = Life::start(alloc, expires, toi, desc);
+    let life = Life::start(expires, toi, desc);
     lives.start(life)?;
     need.plain += plain;
     need.equations += equations;
@@ -98,7 +96,6 @@ fn start_file(
 
 /// Starts a life, or prolongs the one that stands under the same description.
 fn add_file(
-    alloc: Global,
     lives: &mut Lives,
     need: &mut Need,
     expires: u64,
@@ -112,7 +109,7 @@ fn add_file(
     ensures small { need.new.plain ≤ 2 ^ 58 × need.new.equations ≤ 2 ^ 58 }
 {
     let Some(place) = lives.place(toi) else {
-        return start_file(alloc, lives, need, expires, toi, desc);
+        return start_file(lives, need, expires, toi, desc);
     };
     if !lives.as_slice()[place].desc().is_same(&desc) {
         return Ok(Entered::Conflicting);
@@ -124,7 +121,6 @@ fn add_file(
 /// Acts on an entry of an instance that stands up to `expires`.
 #[tactic(auto, unfolding(mb_machine::specs::Entries::with_entry))]
 fn add_entry(
-    alloc: Global,
     lives: &mut Lives,
     need: &mut Need,
     expires: u64,
@@ -137,7 +133,7 @@ fn add_entry(
     ensures small { need.new.plain ≤ 2 ^ 58 × need.new.equations ≤ 2 ^ 58 }
 {
     match (entry.toi, entry.entry) {
-        (Some(toi), Ok(desc)) => add_file(alloc, lives, need, expires, toi, desc),
+        (Some(toi), Ok(desc)) => add_file(lives, need, expires, toi, desc),
         (_, _) => Ok(Entered::Refused),
     }
 }
@@ -160,7 +156,6 @@ fn entered(report: InstanceReport, entry: Entered) -> InstanceReport
 
 /// Acts on the entries of an instance that stands up to `expires`, in order. After `Memory` some may have acted.
 pub fn add_files(
-    alloc: Global,
     lives: &mut Lives,
     expires: u64,
     files: FileEntries,
@@ -170,7 +165,7 @@ pub fn add_files(
     let mut need = needed(lives.as_slice());
     let mut report = EMPTY;
     for entry in files.into_vec() {
-        report = entered(report, add_entry(alloc, lives, &mut need, expires, entry)?);
+        report = entered(report, add_entry(lives, &mut need, expires, entry)?);
     }
     Ok(report)
 }

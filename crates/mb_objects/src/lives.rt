@@ -1,4 +1,4 @@
-ghost use Rattle.std.specs.Prelude.{◌≡◌, ℕ, ◌+◌, ◌-◌, ◌<◌, ◌≤◌, ◌==◌, ◌&&◌, ◌++◌, ◌∷◌, [], not, false, true, map, filter, find, length, position, option_map, slice_set, slice_index_or, IfOk, IfSome, OnOk, OnErr, Some, None, vec_len};
+ghost use Rattle.std.specs.Prelude.{◌≡◌, ℕ, ◌+◌, ◌-◌, ◌<◌, ◌≤◌, ◌^◌, ◌==◌, ◌&&◌, ◌++◌, ◌∷◌, [], not, false, true, map, filter, find, length, position, option_map, slice_set, slice_index_or, IfOk, IfSome, OnOk, OnErr, Some, None, vec_len};
 ghost use Rattle.mb_geom.specs.Partition.{ceiling};
 ghost use Rattle.mb_geom.specs.Description.{plain, equations};
 ghost use Rattle.mb_life.specs.Life.{Life, is_ready, prolong, hand_out, kept_in};
@@ -7,6 +7,7 @@ ghost use Rattle.mb_life.specs.Taking.{IsTaken};
 ghost use Rattle.mb_machine.specs.Table.{lives_most, is_past, needed, life_of};
 ghost use Rattle.mb_machine.specs.Laws.{IsFirstReady};
 ghost use Rattle.mb_objects.specs.Takes.{if_ready, IsReadyAt};
+ghost use Rattle.mb_objects.specs.Bound.{lives_held};
 ghost use Rattle.mb_objects.specs.LivesView.{tois, AreApart, AllFrom};
 
 use mb_base::{Gate, Memory};
@@ -186,7 +187,7 @@ impl Lives {
     }
 
     /// Hears the symbols of a payload in a block of the life at a place, the first of which has this ESI. It takes
-    /// memory only for a block of which nothing was heard. After `Memory` the lives are as before.
+    /// memory only for a file of which nothing was heard. After `Memory` the lives are as before.
     pub fn hear(
         &mut self,
         alloc: Global,
@@ -247,13 +248,15 @@ impl Lives {
         Ok(taken)
     }
 
-    /// The bytes of the buffers of all blocks.
+    /// The bytes of the buffers of all files of which a symbol is kept.
     pub fn buffered(&self) -> u64
-        ensures { result ≤ needed (λ d. plain d + equations d) self.now }
+        ensures most { result ≤ needed (λ d. plain d + equations d) self.now }
+        ensures least { lives_held self.now ≤ result }
+        ensures small { result ≤ 2 ^ 40 }
     {
-        let mut bytes = 0_u64;
+        let mut bytes = 0;
         for life in &self.items {
-            bytes = bytes.saturating_add(life.buffered());
+            bytes += life.buffered();
         }
         bytes
     }

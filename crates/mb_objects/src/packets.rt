@@ -38,7 +38,7 @@ fn read_instance(
         }
         Ok(fdt) => {
             window.settle(id, fti, fdt.expires);
-            let report = add_files(alloc, lives, fdt.expires, fdt.files)?;
+            let report = add_files(lives, fdt.expires, fdt.files)?;
             Ok(Happened::Instance { id, report })
         }
     }

@@ -5,7 +5,7 @@ ghost use Rattle.mb_machine.specs.Table.{fresh, tick};
 ghost use Rattle.mb_machine.specs.Laws.{IsFirstReady};
 ghost use Rattle.mb_machine.specs.Packets as packets;
 ghost use Rattle.mb_objects.specs.Takes.{Takes};
-ghost use Rattle.mb_objects.specs.Bound.{memory_bound};
+ghost use Rattle.mb_objects.specs.Bound.{memory_bound, memory_held};
 
 use crate::lives::Lives;
 use crate::packets::{Session, hear_packet};
@@ -85,7 +85,7 @@ impl Table {
 
     /// Moves the clock to the NTP second `at`, and hears a packet of that moment, or drops it for the first reason that
     /// holds. A packet of the session with Close Session closes it, also where it is dropped. It takes memory only for
-    /// an FDT Instance, and for a block of which nothing was heard. After `Memory` an instance may have acted in part.
+    /// an FDT Instance, and for a file of which nothing was heard. After `Memory` an instance may have acted in part.
     pub fn packet(&mut self, at: u64, packet: &Packet<'_>) -> Result<Happened, Memory>
         ensures { IfOk result (λ happened. packets.packet at (packet_seen packet.now) self.old ≡ record { table = self.new; happened = happened }) }
     {
@@ -167,10 +167,11 @@ impl Table {
         Ok(taken)
     }
 
-    /// The bytes of the buffers of its symbols, equations and instances.
+    /// The bytes of the buffers of its files and instances.
     pub fn buffered(&self) -> u64
-        ensures { result ≤ memory_bound self.now }
+        ensures most { result ≤ memory_bound self.now }
+        ensures least { memory_held self.now ≤ result }
     {
-        self.window.buffered().saturating_add(self.lives.buffered())
+        self.window.buffered() + self.lives.buffered()
     }
 }
