@@ -12,6 +12,7 @@ mod tables_tests;
 mod writer;
 
 pub use fault::{AddFault, TablesFault};
+pub use limits::h_of;
 pub use reader::read_tables;
 pub use row::Row;
 pub use tables::{Tables, make_row};

@@ -44,8 +44,8 @@ fn ways(h: u16) -> u32
     }
 }
 
-/// H of K + S symbols.
-fn h_of(symbols: u32) -> u16
+/// H, the half symbols of K + S symbols.
+pub fn h_of(symbols: u32) -> u16
     requires { symbols ≤ 12870 }
     ensures h { IsH symbols result }
     ensures most { result ≤ 16 }

@@ -1,0 +1,3 @@
+pub mod PlaceLemmas
+pub mod WalkLemmas
+pub mod MarkLemmas

@@ -1,0 +1,6 @@
+pub mod Places
+pub mod Code
+pub mod Triple
+pub mod Walk
+pub mod Constraints
+pub mod Folding

@@ -1,0 +1,9 @@
+//! The rows of the Raptor code (RFC 5053): which intermediate symbols each encoding symbol and each constraint
+//! takes, and what is left of a row when the LDPC and half symbols are replaced by the source places.
+#![tactic(auto)]
+
+mod constraint;
+mod triple;
+mod walk;
+
+pub use triple::Triple;
