@@ -1,3 +1,5 @@
 pub mod PlaceLemmas
 pub mod WalkLemmas
 pub mod MarkLemmas
+pub mod FoldLemmas
+pub mod CodeLemmas

@@ -1,10 +1,10 @@
 -- Sets of places, and the rows that have them.
-use Rattle.std.proofs.Common.{◌≡◌, ◌≢◌, ℕ, zero, suc, ◌+◌, ◌-◌, ◌*◌, ◌/◌, ◌%◌, ◌<◌, ◌≤◌, ◌⊎◌, inl, inr, Bool, true, false, not, cond, ◌==◌, ◌&&◌, List, [], ◌∷◌, length, refl, ap, ap₂, sym, ◌∙◌, arith, eqb, ltb, replicate, slice_index}
+use Rattle.std.proofs.Common.{◌≡◌, ◌≢◌, ℕ, zero, suc, ◌+◌, ◌-◌, ◌*◌, ◌/◌, ◌%◌, ◌<◌, ◌≤◌, ◌⊎◌, inl, inr, Bool, true, false, not, cond, ◌==◌, ◌&&◌, ◌||◌, List, [], ◌∷◌, length, refl, ap, ap₂, sym, ◌∙◌, arith, eqb, ltb, replicate, slice_index}
 use Rattle.std.specs.Prelude.{count_by}
 use Rattle.std.specs.Int.{bit_at}
 use Rattle.std.proofs.lemmas.Nat.Bits.{bit_at-zero}
 use Rattle.std.proofs.lemmas.List.Sums.{sum_by-cons}
-use Rattle.std.proofs.lemmas.Bool.{cases_lt, lt-ltb, le-ltb}
+use Rattle.std.proofs.lemmas.Bool.{cases_lt, lt-ltb, le-ltb, eq-eqb, ne_eqb}
 use Rattle.std.proofs.lemmas.Bool.Decides.{eqb_tells}
 use Rattle.mb_linear.specs.Row.{plus, row_sum, zeros, added_if, value_over}
 use Rattle.mb_linear.proofs.RowLemmas.{plus_none}
@@ -121,3 +121,12 @@ pub grown : (i q : ℕ) (flip : Bool) (f : ℕ → Bool) (old new : List ℕ) �
     → (p : ℕ) → bit_in new p ≡ (ltb p (i + 1) && f p)
 grown i q flip f old new e g s w p =
     s p ∙ ap (λ (n : ℕ). plus (flip && (n == p)) (bit_in old p)) e ∙ ap₂ (λ (b c : Bool). plus (b && (i == p)) c) g (w p) ∙ below_next i p f
+
+-- words that have the places of a set and of one place outside of it
+with_place_by : (q p : ℕ) (f : ℕ → Bool) → f q ≡ false → ((eqb q p ≡ true) × (q ≡ p)) ⊎ ((eqb q p ≡ false) × (q ≢ p)) → plus (q == p) (f p) ≡ ((p == q) || f p)
+with_place_by q p f e (inl s) =
+    ap₂ plus s.0 (ap f (sym s.1) ∙ e) ∙ ap (λ (b : Bool). b || f p) (sym (eq-eqb p q (sym s.1)))
+with_place_by q p f e (inr s) = ap (λ (b : Bool). plus b (f p)) s.0 ∙ ap (λ (b : Bool). b || f p) (sym (ne_eqb p q (λ same. s.1 (sym same))))
+
+pub with_place : (q p : ℕ) (f : ℕ → Bool) → f q ≡ false → plus (q == p) (f p) ≡ ((p == q) || f p)
+with_place q p f e = with_place_by q p f e (eqb_tells q p)

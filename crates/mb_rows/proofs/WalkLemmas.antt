@@ -121,7 +121,7 @@ taken_none zero l a lp b place true e = refl
 taken_none zero l a lp b place false e = refl
 taken_none (suc n) l a lp b place bit e = absurd (omega arith)
 
-taken_more : (n m l a lp b place : ℕ) → n ≡ suc m → place ≡ first_below l a lp b
+pub taken_more : (n m l a lp b place : ℕ) → n ≡ suc m → place ≡ first_below l a lp b
     → taken_from n l a lp b ≡ place ∷ taken_from m l a lp ((place + a) % lp)
 unfolding taken_from
 taken_more zero m l a lp b place e f = absurd (omega arith)

@@ -4,3 +4,4 @@ pub mod Triple
 pub mod Walk
 pub mod Constraints
 pub mod Folding
+pub mod Kept

@@ -1,4 +1,4 @@
-ghost use Rattle.std.specs.Prelude.{◌≡◌, ◌≢◌, ℕ, ◌+◌, ◌-◌, ◌*◌, ◌<◌, ◌≤◌, ◌^◌, ◌==◌, ◌&&◌, Bool, false, length, nat_lt};
+ghost use Rattle.std.specs.Prelude.{◌≡◌, ◌≢◌, ℕ, ◌+◌, ◌-◌, ◌*◌, ◌<◌, ◌≤◌, ◌^◌, ◌==◌, ◌&&◌, Bool, false, length, nat_lt, if◌then◌else◌};
 ghost use Rattle.mb_linear.specs.Row.{plus};
 ghost use Rattle.mb_bits.specs.BitRow.{bit_in};
 ghost use Rattle.mb_tables.specs.Limits.{half};
@@ -74,5 +74,24 @@ pub(crate) fn put_half(h: u16, count: u16, i: u16, out: &mut [u64])
         }
         flip_if(out, usize::from(at), code >> i & 1 == 1);
         at += 1;
+    }
+}
+
+/// Sets the symbols that are added to the LDPC or half symbol of constraint i, and clears all other places.
+pub(crate) fn put_added(k: u16, s: u16, h: u16, i: u16, out: &mut [u64])
+    requires some { 2 ≤ s }
+    requires few { s ≤ 512 }
+    requires half { h ≤ 16 }
+    requires sum { k + s + h < 2 ^ 16 }
+    requires which { i < s + h }
+    requires words { k + s ≤ 64 * length out.old }
+    ensures places { (place : ℕ) → bit_in out.new place
+        ≡ (if nat_lt i s then nat_lt place k && of.in_ldpc s i place else nat_lt place (k + s) && of.in_half h (i - s) place) }
+    ensures words { length out.new ≡ length out.old }
+{
+    if i < s {
+        put_ldpc(k, s, i, out);
+    } else {
+        put_half(h, k + s, i - s, out);
     }
 }

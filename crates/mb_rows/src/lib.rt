@@ -2,8 +2,13 @@
 //! takes, and what is left of a row when the LDPC and half symbols are replaced by the source places.
 #![tactic(auto)]
 
+mod code;
 mod constraint;
+mod fault;
+mod fold;
 mod triple;
 mod walk;
 
+pub use code::Code;
+pub use fault::CodeFault;
 pub use triple::Triple;

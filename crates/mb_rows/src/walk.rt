@@ -6,8 +6,8 @@ ghost use Rattle.mb_rows.specs.Walk as of;
 use crate::Triple;
 use mb_bits::flip_bit;
 
-// One step of a walk.
-fn next(place: u16, a: u16, lp: u16) -> u16
+/// One step of a walk.
+pub(crate) fn next(place: u16, a: u16, lp: u16) -> u16
     requires { 0 < lp }
     ensures next { result ≡ (place + a) % lp }
     ensures below { result < lp }
@@ -15,9 +15,9 @@ fn next(place: u16, a: u16, lp: u16) -> u16
     ((u32::from(place) + u32::from(a)) % u32::from(lp)) as u16
 }
 
-// Goes on from b to the first place below L. It ends: where the step is at most L, the walk rises to L' and comes
-// behind it to a place below the step; where it is more, the walk falls by less than L at each step.
-fn first_below(l: u16, a: u16, lp: u16, b: u16) -> u16
+/// Goes on from b to the first place below L. There is one: where the step is at most L, the walk rises to L' and
+/// comes behind it to a place below the step; where it is more, the walk falls by less than L at each step.
+pub(crate) fn first_below(l: u16, a: u16, lp: u16, b: u16) -> u16
     requires l { l ≤ lp }
     requires twice { lp < 2 * l }
     requires step { 1 ≤ a }

@@ -81,6 +81,7 @@ impl Tables {
     pub fn row(&self, k: u16) -> Option<Row>
         ensures found { IfSome result (λ row. Contains self.now.rows row × (row.k ≡ k)) }
         ensures none { IfNone result (All (λ (row : Row). row.k ≢ k) self.now.rows) }
+        ensures tables { AreTables self.now }
     {
         row_for(&self.rows, k)
     }
