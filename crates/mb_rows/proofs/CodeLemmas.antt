@@ -102,7 +102,7 @@ folded_bits c esi l lp k w p t kept folded bit is e f g a b d h =
     ∙ ap₂ (λ (i v : ℕ). is_odd_over (in_lt c esi) (known_bit i v folded) l p) a b
     ∙ ap₂ (λ (words : List ℕ) (n : ℕ). is_odd_over (in_lt c esi) (known_bit c.row.k ((c.row.k + 63) / 64) words) n p) d f
     ∙ over_sets (in_lt c esi) (known_bit c.row.k ((c.row.k + 63) / 64) kept) (symbol_set c.row.k c.row.s c.h) (l_of c) p
-      (λ m q. known_symbol c.row.k c.row.s c.h (c.row.s + c.h) ((c.row.k + 63) / 64) m p kept is.symbols (enough_words c.row.k) (omega arith))
+    (λ m q. known_symbol c.row.k c.row.s c.h (c.row.s + c.h) ((c.row.k + 63) / 64) m p kept is.symbols (enough_words c.row.k) (omega arith))
 
 pub folded_is : (c v : RaptorCode) (esi l lp k w : ℕ) (t : Triple) (kept folded words : List ℕ) → c ≡ v → IsKept c kept → t ≡ triple_of v esi → l ≡ l_of v → lp ≡ c.row.lp
     → k ≡ c.row.k → w ≡ (v.row.k + 63) / 64 → folded ≡ kept
@@ -110,7 +110,7 @@ pub folded_is : (c v : RaptorCode) (esi l lp k w : ℕ) (t : Triple) (kept folde
 folded_is c v esi l lp k w t kept folded words s is e f g a b d h =
     let P : RaptorCode → Type 0 = λ x. row_of x.row.k words ≡ folded_row x esi in
     subst P s (row_is c.row.k words (in_folded c esi) (λ p q. folded_bits c esi l lp k w p t kept folded (bit_in words p) is
-      (e ∙ ap (λ (x : RaptorCode). triple_of x esi) (sym s)) (f ∙ ap l_of (sym s)) g a (b ∙ ap (λ (x : RaptorCode). (x.row.k + 63) / 64) (sym s)) d (h p)))
+    (e ∙ ap (λ (x : RaptorCode). triple_of x esi) (sym s)) (f ∙ ap l_of (sym s)) g a (b ∙ ap (λ (x : RaptorCode). (x.row.k + 63) / 64) (sym s)) d (h p)))
 
 pub folded_rest : (c v : RaptorCode) (esi l lp k w : ℕ) (t : Triple) (kept folded words : List ℕ) → c ≡ v → IsKept c kept → t ≡ triple_of v esi → l ≡ l_of v → lp ≡ c.row.lp
     → k ≡ c.row.k → w ≡ (v.row.k + 63) / 64 → folded ≡ kept
@@ -118,5 +118,5 @@ pub folded_rest : (c v : RaptorCode) (esi l lp k w : ℕ) (t : Triple) (kept fol
 folded_rest c v esi l lp k w t kept folded words s is e f g a b d h p q =
     let behind : c.row.k ≤ p = rw s q in
     folded_bits c esi l lp k w p t kept folded (bit_in words p) is
-      (e ∙ ap (λ (x : RaptorCode). triple_of x esi) (sym s)) (f ∙ ap l_of (sym s)) g a (b ∙ ap (λ (x : RaptorCode). (x.row.k + 63) / 64) (sym s)) d (h p)
+    (e ∙ ap (λ (x : RaptorCode). triple_of x esi) (sym s)) (f ∙ ap l_of (sym s)) g a (b ∙ ap (λ (x : RaptorCode). (x.row.k + 63) / 64) (sym s)) d (h p)
     ∙ folded_behind c.row.k c.row.s c.h (l_of c) p (in_lt c esi) behind

@@ -73,8 +73,8 @@ added_kept k w symbol n folded old new q e r s p =
     bit_of_sum old (take (w * n + w - w * n) (drop (w * n) folded)) new s p
     ∙ plus_comm (bit_in old p) (bit_in (take (w * n + w - w * n) (drop (w * n) folded)) p)
     ∙ ap (λ (b : Bool). plus b (bit_in old p)) (slice_bit w (w * n) p folded r
-      ∙ ap (λ (m : ℕ). ltb p (64 * w) && kept_bit w folded m p) e
-      ∙ sym (cond-false (ltb symbol k) (symbol == p) (ltb p (64 * w) && kept_bit w folded (symbol - k) p) (le-ltb symbol k q)))
+    ∙ ap (λ (m : ℕ). ltb p (64 * w) && kept_bit w folded m p) e
+    ∙ sym (cond-false (ltb symbol k) (symbol == p) (ltb p (64 * w) && kept_bit w folded (symbol - k) p) (le-ltb symbol k q)))
 
 -- ---- one place of one symbol
 
@@ -138,7 +138,7 @@ added_three w s i a b c old one two new d e t f g h r p q =
     h r p q ∙ ap (plus ((i == p) && (c == r))) (g r p q ∙ ap (plus ((i == p) && (b == r))) (f r p q))
     ∙ three_times (i == p) (a == r) (b == r) (c == r) (kept_bit w old r p)
     ∙ ap (λ (x : Bool). plus ((i == p) && x) (kept_bit w old r p)) (sym (odd_of_three a b c r)
-      ∙ ap₂ (λ (x : ℕ) (rest : List ℕ). is_odd_in (x ∷ rest) r) d (ap₂ (λ (x y : ℕ). x ∷ y ∷ []) e t))
+    ∙ ap₂ (λ (x : ℕ) (rest : List ℕ). is_odd_in (x ∷ rest) r) d (ap₂ (λ (x y : ℕ). x ∷ y ∷ []) e t))
 
 -- ---- the LDPC symbols
 
@@ -210,8 +210,8 @@ pub half_next : (k s h i w v j q next p : ℕ) (chosen old new : Bool) (folded s
     → new ≡ is_odd_over (in_half h i) (plain_set k s) next p
 half_next k s h i w v j q next p chosen old new folded scratch a b e r f g c d m o =
     m ∙ ap₂ plus (ap₂ (λ (x y : Bool). x && y)
-        (c ∙ ap (bit_in scratch) f ∙ d ∙ ap (λ (x : Bool). x && in_half h i j) (lt-ltb j (k + s) r))
-        (ap (λ (n : ℕ). known_bit k n folded j p) e ∙ known_plain k s h w j p folded a b r)) o
+    (c ∙ ap (bit_in scratch) f ∙ d ∙ ap (λ (x : Bool). x && in_half h i j) (lt-ltb j (k + s) r))
+    (ap (λ (n : ℕ). known_bit k n folded j p) e ∙ known_plain k s h w j p folded a b r)) o
     ∙ sym (odd_over_next (in_half h i) (plain_set k s) j next p g)
 
 pub row_within : (w r n : ℕ) → r < n → w * r + w ≤ w * n
@@ -251,7 +251,7 @@ folded_more_by : (k s h n i w r p : ℕ) (folded front own rest : List ℕ) → 
     → p < 64 * w → (r < n) ⊎ (n ≤ r) → r < suc n → kept_bit w (front ++ (own ++ rest)) r p ≡ symbol_set k s h (k + r) p
 folded_more_by k s h n i w r p folded front own rest a e f o g d b (inl q) t =
     same_kept w r n p (front ++ (own ++ rest)) folded q b (λ j u.
-      let same : slice_index (front ++ (own ++ rest)) j ≡ slice_index front j = grind (arith, common_steps) in same ∙ g j u)
+    let same : slice_index (front ++ (own ++ rest)) j ≡ slice_index front j = grind (arith, common_steps) in same ∙ g j u)
     ∙ a r p q b
 folded_more_by k s h n i w r p folded front own rest a e f o g d b (inr q) t =
     let last : r ≡ n = omega arith in
@@ -346,10 +346,10 @@ pub added_next : (n m l a lp b next taken p k v w : ℕ) (folded old new : List 
 added_next n m l a lp b next taken p k v w folded old new all e f g q t h u =
     u ∙ ap (λ (ps : List ℕ). plus (bit_in old p) (is_odd_over (is_odd_in ps) (known_bit k w folded) l p)) (taken_more n m l a lp b taken e f)
     ∙ ap (plus (bit_in old p)) (over_more taken l p (is_odd_in (taken ∷ taken_from m l a lp ((taken + a) % lp))) (is_odd_in (taken_from m l a lp ((taken + a) % lp)))
-      (known_bit k w folded) (λ i. odd_more taken (taken_from m l a lp ((taken + a) % lp)) i) q)
+    (known_bit k w folded) (λ i. odd_more taken (taken_from m l a lp ((taken + a) % lp)) i) q)
     ∙ sym (plus_assoc (bit_in old p) (known_bit k w folded taken p) (is_odd_over (is_odd_in (taken_from m l a lp ((taken + a) % lp))) (known_bit k w folded) l p))
     ∙ ap₂ (λ (x : Bool) (i : ℕ). plus x (is_odd_over (is_odd_in (taken_from m l a lp i)) (known_bit k w folded) l p))
-      (plus_comm (bit_in old p) (known_bit k w folded taken p) ∙ ap (λ (i : ℕ). plus (known_bit k i folded taken p) (bit_in old p)) (sym t) ∙ sym h) (sym g)
+    (plus_comm (bit_in old p) (known_bit k w folded taken p) ∙ ap (λ (i : ℕ). plus (known_bit k i folded taken p) (bit_in old p)) (sym t) ∙ sym h) (sym g)
 
 pub folded_same : (k s h n w v : ℕ) (xs ys : List ℕ) → AreFolded k s h n w xs → v ≡ w → ys ≡ xs → AreFolded k s h n v ys
 folded_same k s h n w v xs ys a e f = λ r p q b.

@@ -139,4 +139,4 @@ taken_next n m l a lp b next taken place all old new e f g flips p =
     ∙ ap (plus (bit_in old place)) (odd_more taken (taken_from m l a lp ((taken + a) % lp)) place)
     ∙ sym (plus_assoc (bit_in old place) (taken == place) (is_odd_in (taken_from m l a lp ((taken + a) % lp)) place))
     ∙ ap₂ (λ (b : Bool) (k : ℕ). plus b (is_odd_in (taken_from m l a lp k) place))
-      (plus_comm (bit_in old place) (taken == place) ∙ sym (flipped taken old new flips place)) (sym g)
+    (plus_comm (bit_in old place) (taken == place) ∙ sym (flipped taken old new flips place)) (sym g)

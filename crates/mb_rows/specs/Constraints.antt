@@ -39,7 +39,7 @@ abbrev pub in_constraint : RaptorCode → ℕ → ℕ → Bool
 in_constraint c i place =
     (place == c.row.k + i)
     || (if nat_lt i c.row.s then nat_lt place c.row.k && in_ldpc c.row.s i place
-        else nat_lt place (c.row.k + c.row.s) && in_half c.h (i - c.row.s) place)
+    else nat_lt place (c.row.k + c.row.s) && in_half c.h (i - c.row.s) place)
 
 abbrev pub constraint_row : RaptorCode → ℕ → List Bool
 constraint_row c i = row_of_set (l_of c) (in_constraint c i)

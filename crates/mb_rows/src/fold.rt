@@ -87,15 +87,7 @@ fn fold_ldpc(k: u16, s: u16, width: usize, folded: &mut [u64])
 }
 
 // Adds up the source and LDPC symbols that are added to half symbol i.
-fn fold_half(
-    k: u16,
-    s: u16,
-    h: u16,
-    i: u16,
-    folded: &[u64],
-    scratch: &mut [u64],
-    out: &mut [u64],
-)
+fn fold_half(k: u16, s: u16, h: u16, i: u16, folded: &[u64], scratch: &mut [u64], out: &mut [u64])
     requires few { h ≤ 16 }
     requires which { i < h }
     requires sum { k + s < 2 ^ 16 }

@@ -6,6 +6,8 @@ mod code;
 mod constraint;
 mod fault;
 mod fold;
+#[cfg(test)]
+mod rows_tests;
 mod triple;
 mod walk;
 

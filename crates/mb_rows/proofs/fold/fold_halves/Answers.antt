@@ -9,8 +9,8 @@ fold_half-requires-clause-ldpc c =
     let room = row_within c.args.width (c.args.s + c.loop-i.i) (c.args.s + c.args.h) (omega arith) in
     let long : c.args.width ≤ length c.split_at_mut-earlier.result.1.now = omega arith in
     folded_front c.args.k c.args.s c.args.h (c.args.s + c.loop-i.i) c.args.s c.args.width _ c.loop-i.folded c.split_at_mut-earlier.result.0.now
-      c.loop-i.invariant.symbols (omega arith) (grind (arith, common_steps))
-      (λ j p. c.split_at_mut-earlier.ensures.by_index.0 j 0 (omega arith))
+    c.loop-i.invariant.symbols (omega arith) (grind (arith, common_steps))
+    (λ j p. c.split_at_mut-earlier.ensures.by_index.0 j 0 (omega arith))
 
 pub loop-i-preserved : goal.loop-i-preserved
 loop-i-preserved c =

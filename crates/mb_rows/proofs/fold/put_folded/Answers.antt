@@ -17,6 +17,6 @@ pub returns-clause-places : goal.returns-clause-places
 returns-clause-places c = λ place.
     let width : length c.fill.new.self ≡ length c.args.out.now = omega arith in
     sym (ap (λ (n : ℕ). is_odd_over (is_odd_in (taken_from n c.args.l c.args.t.a c.args.lp c.args.t.b)) (known_bit c.args.k (length c.args.out.now) c.args.folded.now) c.args.l place)
-      (sym (c.min-end.ensures ∙ ap (λ (d : ℕ). min d c.args.l) c.from.ensures))
+    (sym (c.min-end.ensures ∙ ap (λ (d : ℕ). min d c.args.l) c.from.ensures))
     ∙ ap (λ (w : ℕ). is_odd_over (is_odd_in (taken_from c.min-end.result c.args.l c.args.t.a c.args.lp c.args.t.b)) (known_bit c.args.k w c.args.folded.now) c.args.l place) (sym width)
     ∙ c.loop.invariant.places place ∙ added_none _ _ _ _ _ place _ _ (omega arith))

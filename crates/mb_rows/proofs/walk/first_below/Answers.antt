@@ -8,7 +8,7 @@ loop-place-preserved c = record {
   within = c.next-place.ensures.below;
   same = c.loop-place.invariant.same
       ∙ first_next _ _ _ _ (record { within = c.requires.l; twice = c.requires.twice; some = c.requires.step; below = c.requires.step_below })
-        c.loop-place.invariant.within c.loop-place-test.true
+      c.loop-place.invariant.within c.loop-place-test.true
       ∙ ap (first_below c.args.l c.args.a c.args.lp) (sym c.next-place.ensures.next);
 }
 

@@ -16,5 +16,5 @@ loop-preserved c = record {
 pub returns-clause-row : goal.returns-clause-row
 returns-clause-row c = λ place.
     sym (ap (λ (n : ℕ). is_odd_in (taken_from n c.args.l c.args.t.a c.args.lp c.args.t.b) place)
-      (sym (c.min-end.ensures ∙ ap (λ (d : ℕ). min d c.args.l) c.from.ensures))
+    (sym (c.min-end.ensures ∙ ap (λ (d : ℕ). min d c.args.l) c.from.ensures))
     ∙ c.loop.invariant.row place ∙ taken_none _ _ _ _ _ place _ (omega arith))

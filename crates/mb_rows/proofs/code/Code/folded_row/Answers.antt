@@ -5,9 +5,9 @@ use Rattle.mb_rows.proofs.code.Code.folded_row.Goals as goal
 pub returns-clause-row : goal.returns-clause-row
 returns-clause-row c =
     folded_is _ c.args.self.now c.args.esi _ _ _ _ _ c.self.inside.folded.items _ _ c.self.view_is c.self.invariant c.triple.ensures.triple c.l.ensures.sum refl refl c.requires
-      c.deref.ensures.value c.put_folded.ensures.places
+    c.deref.ensures.value c.put_folded.ensures.places
 
 pub returns-clause-behind : goal.returns-clause-behind
 returns-clause-behind c =
     folded_rest _ c.args.self.now c.args.esi _ _ _ _ _ c.self.inside.folded.items _ _ c.self.view_is c.self.invariant c.triple.ensures.triple c.l.ensures.sum refl refl c.requires
-      c.deref.ensures.value c.put_folded.ensures.places
+    c.deref.ensures.value c.put_folded.ensures.places
