@@ -3,3 +3,5 @@ pub mod WalkLemmas
 pub mod MarkLemmas
 pub mod FoldLemmas
 pub mod CodeLemmas
+pub mod ValueLemmas
+pub mod MarkCount

@@ -1,15 +1,15 @@
 -- Sets of places, and the rows that have them.
-use Rattle.std.proofs.Common.{◌≡◌, ◌≢◌, ℕ, zero, suc, ◌+◌, ◌-◌, ◌*◌, ◌/◌, ◌%◌, ◌<◌, ◌≤◌, ◌⊎◌, inl, inr, Bool, true, false, not, cond, ◌==◌, ◌&&◌, ◌||◌, List, [], ◌∷◌, length, refl, ap, ap₂, sym, ◌∙◌, arith, eqb, ltb, replicate, slice_index}
+use Rattle.std.proofs.Common.{◌≡◌, ◌≢◌, ℕ, zero, suc, ◌+◌, ◌/◌, ◌%◌, ◌<◌, ◌≤◌, ◌⊎◌, inl, inr, Bool, true, false, not, cond, ◌==◌, ◌&&◌, ◌||◌, List, ◌∷◌, length, refl, ap, ap₂, sym, ◌∙◌, arith, eqb, ltb, replicate, slice_index}
 use Rattle.std.specs.Prelude.{count_by}
 use Rattle.std.specs.Int.{bit_at}
 use Rattle.std.proofs.lemmas.Nat.Bits.{bit_at-zero}
 use Rattle.std.proofs.lemmas.List.Sums.{sum_by-cons}
 use Rattle.std.proofs.lemmas.Bool.{cases_lt, lt-ltb, le-ltb, eq-eqb, ne_eqb}
 use Rattle.std.proofs.lemmas.Bool.Decides.{eqb_tells}
-use Rattle.mb_linear.specs.Row.{plus, row_sum, zeros, added_if, value_over}
+use Rattle.mb_linear.specs.Row.{plus}
 use Rattle.mb_linear.proofs.RowLemmas.{plus_none}
 use Rattle.mb_bits.specs.BitRow.{bit_in, row_from, row_of, Flips}
-use Rattle.mb_rows.specs.Places.{is_odd_in, row_from_set, row_of_set, is_odd_over}
+use Rattle.mb_rows.specs.Places.{is_odd_in, row_from_set, row_of_set}
 
 zero_word : (n i : ℕ) → slice_index (replicate n 0) i ≡ 0
 zero_word zero i = refl

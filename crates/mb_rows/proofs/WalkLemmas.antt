@@ -1,6 +1,6 @@
 -- A walk comes to a place below L, and it is the first one however many steps are looked at, if they are enough.
-use Rattle.std.proofs.Common.{◌≡◌, ℕ, zero, suc, ◌+◌, ◌-◌, ◌*◌, ◌%◌, ◌<◌, ◌≤◌, ◌⊎◌, inl, inr, ◌==◌, ap₂, Bool, true, false, cond, ltb, leb, List, [], ◌∷◌, refl, ap, sym, ◌∙◌, arith}
-use Rattle.std.specs.Prelude.{find, unwrap_or, Some}
+use Rattle.std.proofs.Common.{◌≡◌, ℕ, zero, suc, ◌+◌, ◌-◌, ◌*◌, ◌%◌, ◌<◌, ◌≤◌, ◌⊎◌, inl, inr, ◌==◌, ap₂, Bool, true, false, cond, ltb, leb, List, ◌∷◌, refl, ap, sym, subst, ◌∙◌, arith}
+use Rattle.std.specs.Prelude.{find, unwrap_or, Option, Some, IsSome}
 use Rattle.std.proofs.lemmas.Bool.{cases_lt, cond-true, cond-false, lt-ltb, le-ltb, le-leb, lt-leb}
 use Rattle.std.proofs.Math.Nat.{mod-eq_of_lt, mod-eq-sub-mod}
 use Rattle.mb_linear.specs.Row.{plus}
@@ -112,6 +112,24 @@ first_next_by (suc n) l a lp b e w p q =
 
 pub first_next : (l a lp b : ℕ) → IsWalk l a lp → b < lp → l ≤ b → first_below l a lp b ≡ first_below l a lp ((b + a) % lp)
 first_next l a lp b w p q = first_next_by lp l a lp b refl w p q
+
+-- a walk of enough steps comes below L
+comes_below : (n l a lp b : ℕ) → IsWalk l a lp → b < lp → gap l a lp b < n → (b < l) ⊎ (l ≤ b) → IsSome (find (λ place. ltb place l) (steps n a lp b))
+unfolding steps
+comes_below zero l a lp b w p q s = absurd (omega arith)
+comes_below (suc n) l a lp b w p q (inl s) =
+    let P : Option ℕ → Type 0 = IsSome in
+    subst P (sym (cond-true (ltb b l) (Some b) (find (λ place. ltb place l) (steps n a lp ((b + a) % lp))) (lt-ltb b l s))) refl
+comes_below (suc n) l a lp b w p q (inr s) =
+    let P : Option ℕ → Type 0 = IsSome in
+    let fewer : gap l a lp ((b + a) % lp) < gap l a lp b = gap_next l a lp b w p s in
+    subst P (sym (cond-false (ltb b l) (Some b) (find (λ place. ltb place l) (steps n a lp ((b + a) % lp))) (le-ltb b l s)))
+    (comes_below n l a lp ((b + a) % lp) w (next_below a lp b p) (omega arith) (cases_lt ((b + a) % lp) l))
+
+pub walk_ends : (l a lp b : ℕ) → l ≤ lp → lp < 2 * l → 1 ≤ a → a < lp → b < lp → IsSome (find (λ place. ltb place l) (steps lp a lp b))
+walk_ends l a lp b within twice some below p =
+    let w : IsWalk l a lp = record { within = within; twice = twice; some = some; below = below } in
+    comes_below lp l a lp b w p (gap_below l a lp b w p) (cases_lt b l)
 
 -- ---- what is taken: one place after the other
 

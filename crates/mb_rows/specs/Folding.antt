@@ -3,7 +3,7 @@ use Rattle.std.specs.Prelude.{◌≡◌, ℕ, ◌+◌, ◌-◌, ◌<◌, ◌==�
 use Rattle.mb_linear.specs.Row.{value_over}
 use Rattle.mb_rows.specs.Places.{row_of_set, is_odd_over}
 use Rattle.mb_rows.specs.Code.{RaptorCode, l_of}
-use Rattle.mb_rows.specs.Walk.{in_lt, lt_row}
+use Rattle.mb_rows.specs.Walk.{in_lt}
 use Rattle.mb_rows.specs.Constraints.{in_ldpc, in_half, constraint_row}
 
 -- values of the L intermediate symbols that meet each constraint

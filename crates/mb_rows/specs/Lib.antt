@@ -5,3 +5,4 @@ pub mod Walk
 pub mod Constraints
 pub mod Folding
 pub mod Kept
+pub mod Laws

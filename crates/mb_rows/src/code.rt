@@ -5,7 +5,7 @@ ghost use Rattle.mb_rows.specs.Code.{RaptorCode, IsCode, IsCodeOf, l_of};
 ghost use Rattle.mb_rows.specs.Triple.{triple_of};
 ghost use Rattle.mb_rows.specs.Walk.{lt_row};
 ghost use Rattle.mb_rows.specs.Constraints.{constraint_row};
-ghost use Rattle.mb_rows.specs.Folding.{folded_row, IsFolded, HasRest};
+ghost use Rattle.mb_rows.specs.Folding.{folded_row, IsFolded};
 ghost use Rattle.mb_tables.specs.declared.row.Row.{Row};
 
 use crate::constraint::put_added;
@@ -145,10 +145,12 @@ impl Code {
     }
 
     /// Puts what is left of the LT row of an ESI when each LDPC and half symbol is replaced by the source places that
-    /// the constraints make it the sum of. The places are as in `lt_row`.
+    /// the constraints make it the sum of: wherever the constraints are met, both say the same. The places are as in
+    /// `lt_row`.
     pub fn folded_row(&self, esi: u16, out: &mut [u64])
         requires { length out.old ≡ (self.now.row.k + 63) / 64 }
         ensures row { row_of self.now.row.k out.new ≡ folded_row self.now esi }
+        ensures folded { IsFolded self.now (lt_row self.now esi) (row_of self.now.row.k out.new) }
         ensures behind { (place : ℕ) → self.now.row.k ≤ place → bit_in out.new place ≡ false }
         ensures words { length out.new ≡ length out.old }
     {

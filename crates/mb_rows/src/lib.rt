@@ -6,6 +6,7 @@ mod code;
 mod constraint;
 mod fault;
 mod fold;
+mod laws;
 #[cfg(test)]
 mod rows_tests;
 mod triple;
@@ -13,4 +14,5 @@ mod walk;
 
 pub use code::Code;
 pub use fault::CodeFault;
+pub use laws::{rows_are_there, rows_fold};
 pub use triple::Triple;

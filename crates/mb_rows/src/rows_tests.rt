@@ -66,9 +66,13 @@ fn agrees(
             add_row(row, other, 0);
         }
     }
-    (0..64 * row.len()).all(|place| {
-        has_bit(row, place) == (place < 64 * folded.len() && has_bit(folded, place))
-    })
+    for place in 0..64 * row.len() {
+        let left = place < 64 * folded.len() && has_bit(folded, place);
+        if has_bit(row, place) != left {
+            return false;
+        }
+    }
+    true
 }
 
 #[test]

@@ -1,4 +1,3 @@
-use Rattle.std.proofs.Common.{arith}
 use Rattle.mb_rows.proofs.FoldLemmas.{added_kept}
 use Rattle.mb_rows.proofs.fold.add_symbol.Goals as goal
 

@@ -1,4 +1,4 @@
-use Rattle.std.proofs.Common.{◌≡◌, ℕ, ◌∙◌, ap, sym, refl, arith, length, replicate, rules}
+use Rattle.std.proofs.Common.{◌≡◌, ◌∙◌, ap, sym, refl, arith, length, replicate, rules}
 use Rattle.mb_bits.specs.BitRow.{bit_in}
 use Rattle.mb_rows.proofs.PlaceLemmas.{none_set}
 use Rattle.mb_rows.proofs.FoldLemmas.{odd_over_none, half_next}

@@ -1,4 +1,4 @@
-use Rattle.std.proofs.Common.{◌≡◌, ℕ, ◌-◌, ◌∙◌, ap, sym, arith, min, length}
+use Rattle.std.proofs.Common.{◌≡◌, ℕ, ◌∙◌, ap, sym, arith, min, length}
 use Rattle.mb_rows.specs.Places.{is_odd_in, is_odd_over}
 use Rattle.mb_rows.specs.Walk.{taken_from}
 use Rattle.mb_rows.specs.Kept.{known_bit}

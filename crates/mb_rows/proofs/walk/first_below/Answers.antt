@@ -1,6 +1,6 @@
-use Rattle.std.proofs.Common.{◌∙◌, ap, sym, arith}
+use Rattle.std.proofs.Common.{◌∙◌, ap, sym}
 use Rattle.mb_rows.specs.Walk.{first_below}
-use Rattle.mb_rows.proofs.WalkLemmas.{IsWalk, first_here, first_next, gap_next}
+use Rattle.mb_rows.proofs.WalkLemmas.{first_here, first_next, gap_next}
 use Rattle.mb_rows.proofs.walk.first_below.Goals as goal
 
 pub loop-place-preserved : goal.loop-place-preserved

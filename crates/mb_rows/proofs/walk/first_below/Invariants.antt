@@ -1,4 +1,4 @@
-use Rattle.std.proofs.Common.{◌≡◌, ℕ, ◌<◌}
+use Rattle.std.proofs.Common.{◌≡◌, ◌<◌}
 use Rattle.mb_rows.specs.Walk as of
 use Rattle.mb_rows.proofs.WalkLemmas.{gap}
 use Rattle.mb_rows.proofs.walk.first_below.Given as goal

@@ -1,4 +1,4 @@
-use Rattle.std.proofs.Common.{◌≡◌, ℕ, ◌∙◌, ap, sym, arith, ◌-◌, min}
+use Rattle.std.proofs.Common.{ℕ, ◌∙◌, ap, sym, arith, min}
 use Rattle.mb_rows.specs.Places.{is_odd_in}
 use Rattle.mb_rows.specs.Walk.{taken_from}
 use Rattle.mb_rows.proofs.WalkLemmas.{taken_next, taken_none}

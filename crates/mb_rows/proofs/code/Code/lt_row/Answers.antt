@@ -1,4 +1,4 @@
-use Rattle.std.proofs.Common.{ap, sym, refl}
+use Rattle.std.proofs.Common.{ap}
 use Rattle.mb_rows.specs.Code.{RaptorCode}
 use Rattle.mb_rows.proofs.CodeLemmas.{lt_is}
 use Rattle.mb_rows.proofs.code.Code.lt_row.Goals as goal

@@ -1,0 +1,23 @@
+-- What holds of the rows of all codes.
+use Rattle.std.specs.Prelude.{◌≡◌, ℕ, ◌*◌, ◌<◌, ◌≤◌, Bool, List, length, find, nat_lt, IsSome}
+use Rattle.mb_tables.specs.Limits.{choose, half}
+use Rattle.mb_rows.specs.Code.{RaptorCode}
+use Rattle.mb_rows.specs.Walk.{steps, lt_row}
+use Rattle.mb_rows.specs.Constraints.{marks}
+use Rattle.mb_rows.specs.Folding.{IsFolded, HasRest, folded_row}
+
+-- a folded row says of the first K symbols what the LT row says of all
+abbrev pub RowsAreFolded : Type 0
+RowsAreFolded = (c : RaptorCode) (esi : ℕ) → IsFolded c (lt_row c esi) (folded_row c esi)
+
+-- the constraints leave the first K symbols free
+abbrev pub FirstAreFree : Type 0
+FirstAreFree = (c : RaptorCode) (first : List Bool) → length first ≡ c.row.k → HasRest c first
+
+-- There are as many marks of H bits as half of H, upwards, can be chosen in ways. So each of K + S symbols has one.
+abbrev pub MarksAreEnough : Type 0
+MarksAreEnough = (h : ℕ) → 1 ≤ h → length (marks h) ≡ choose h (half h)
+
+-- L' steps of a walk come to a place below L
+abbrev pub WalksEnd : Type 0
+WalksEnd = (l a lp b : ℕ) → l ≤ lp → lp < 2 * l → 1 ≤ a → a < lp → b < lp → IsSome (find (λ place. nat_lt place l) (steps lp a lp b))
