@@ -4,12 +4,13 @@ use Rattle.std.specs.Prelude.{slice_index_or}
 use Rattle.std.proofs.lemmas.Bool.{cases_lt, cases_eq, cond-true, cond-false, lt-ltb, le-ltb, eq-eqb, ne_eqb}
 use Rattle.mb_linear.specs.Row.{plus, value_over}
 use Rattle.mb_linear.proofs.RowLemmas.{plus_assoc, plus_comm, plus_self, plus_none, plus_middle, and_over_plus}
-use Rattle.mb_rows.specs.Places.{row_from_set, row_of_set, is_odd_over}
+use Rattle.mb_rows.specs.Places.{is_odd_in, row_from_set, row_of_set, is_odd_over}
 use Rattle.mb_rows.specs.Code.{RaptorCode, l_of}
-use Rattle.mb_rows.specs.Walk.{in_lt, lt_row}
+use Rattle.mb_rows.specs.Triple.{triple_of}
+use Rattle.mb_rows.specs.Walk.{taken, sum_at, in_lt, lt_row}
 use Rattle.mb_rows.specs.Constraints.{in_ldpc, in_half, in_constraint}
 use Rattle.mb_rows.specs.Folding.{MeetsConstraints, IsFolded, HasRest, plain_set, half_set, symbol_set, in_folded, folded_row}
-use Rattle.mb_rows.proofs.PlaceLemmas.{with_place, length_set}
+use Rattle.mb_rows.proofs.PlaceLemmas.{with_place, length_set, odd_more}
 use Rattle.mb_rows.proofs.FoldLemmas.{source_symbol, ldpc_symbol, half_symbol}
 use Rattle.mb_rows.proofs.CodeLemmas.{added_in, own_outside}
 
@@ -302,3 +303,28 @@ first_are_free c first long = record {
       ∙ set_from_row c.row.k 0 (symbols_of c first) first long (λ i j e q. source_total c.row.k c.row.s c.h j (at_place first) (omega arith)
       ∙ ap (at_place first) (let same : j ≡ i = omega arith in same));
 }
+
+-- ---- what is taken, one place after the other
+
+place_past : (values : List Bool) (i : ℕ) → length values ≤ i → at_place values i ≡ false
+place_past [] i p = refl
+place_past (x ∷ values) zero p = absurd (omega arith)
+place_past (x ∷ values) (suc i) p = place_past values i (omega arith)
+
+one_value_by : (values : List Bool) (q n : ℕ) → length values ≡ n → (q < n) ⊎ (n ≤ q) → total (λ i. q == i) (at_place values) n ≡ at_place values q
+one_value_by values q n e (inl p) = total_one (at_place values) q n p
+one_value_by values q n e (inr p) = total_before (at_place values) q n p ∙ sym (place_past values q (omega arith))
+
+sum_of_places : (places : List ℕ) (values : List Bool) (n : ℕ) → length values ≡ n → total (is_odd_in places) (at_place values) n ≡ sum_at places values
+unfolding sum_at
+sum_of_places [] values n e = total_off (at_place values) n
+sum_of_places (q ∷ places) values n e =
+    total_same (is_odd_in (q ∷ places)) (λ i. plus (q == i) (is_odd_in places i)) (at_place values) (at_place values) n
+      (λ i p. ap (λ (b : Bool). b && at_place values i) (odd_more q places i))
+    ∙ total_plus (λ i. q == i) (is_odd_in places) (at_place values) n
+    ∙ ap₂ plus (one_value_by values q n e (cases_lt q n)) (sum_of_places places values n e)
+
+pub row_is_sum : (c : RaptorCode) (esi : ℕ) (values : List Bool) → length values ≡ l_of c
+    → value_over (lt_row c esi) values ≡ sum_at (taken (l_of c) c.row.lp (triple_of c esi)) values
+row_is_sum c esi values e =
+    value_of_set (l_of c) (in_lt c esi) values ∙ sum_of_places (taken (l_of c) c.row.lp (triple_of c esi)) values (l_of c) e

@@ -1,10 +1,17 @@
 -- What holds of the rows of all codes.
 use Rattle.std.specs.Prelude.{◌≡◌, ℕ, ◌*◌, ◌<◌, ◌≤◌, Bool, List, length, find, nat_lt, IsSome}
 use Rattle.mb_tables.specs.Limits.{choose, half}
-use Rattle.mb_rows.specs.Code.{RaptorCode}
-use Rattle.mb_rows.specs.Walk.{steps, lt_row}
+use Rattle.mb_linear.specs.Row.{value_over}
+use Rattle.mb_rows.specs.Code.{RaptorCode, l_of}
+use Rattle.mb_rows.specs.Triple.{triple_of}
+use Rattle.mb_rows.specs.Walk.{steps, taken, sum_at, lt_row}
 use Rattle.mb_rows.specs.Constraints.{marks}
 use Rattle.mb_rows.specs.Folding.{IsFolded, HasRest, folded_row}
+
+-- the LT row of an ESI sums values to what its triple adds up, one symbol after the other
+abbrev pub RowsAreSums : Type 0
+RowsAreSums = (c : RaptorCode) (esi : ℕ) (values : List Bool) → length values ≡ l_of c
+    → value_over (lt_row c esi) values ≡ sum_at (taken (l_of c) c.row.lp (triple_of c esi)) values
 
 -- a folded row says of the first K symbols what the LT row says of all
 abbrev pub RowsAreFolded : Type 0

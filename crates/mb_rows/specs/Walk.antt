@@ -1,5 +1,6 @@
 -- The intermediate symbols that an encoding symbol is the sum of (RFC 5053 section 5.4.4.3).
-use Rattle.std.specs.Prelude.{ℕ, zero, suc, ◌+◌, ◌%◌, Bool, List, [], ◌∷◌, min, nat_lt, find, unwrap_or}
+use Rattle.std.specs.Prelude.{ℕ, zero, suc, ◌+◌, ◌%◌, Bool, false, List, [], ◌∷◌, min, nat_lt, find, unwrap_or, slice_index_or}
+use Rattle.mb_linear.specs.Row.{plus}
 use Rattle.mb_rows.specs.Places.{is_odd_in, row_of_set}
 use Rattle.mb_rows.specs.Code.{RaptorCode, l_of}
 use Rattle.mb_rows.specs.Triple.{triple_of}
@@ -22,6 +23,11 @@ taken_from (suc n) l a lp b = first_below l a lp b ∷ taken_from n l a lp ((fir
 -- the symbols that a triple takes
 abbrev pub taken : ℕ → ℕ → Triple → List ℕ
 taken l lp t = taken_from (min t.d l) l t.a lp t.b
+
+-- the sum of the values at places, each added as often as it occurs
+unfoldable pub sum_at : List ℕ → List Bool → Bool
+sum_at [] values = false
+sum_at (place ∷ places) values = plus (slice_index_or values place false) (sum_at places values)
 
 -- the set of those that are taken an odd number of times
 abbrev pub in_lt : RaptorCode → ℕ → ℕ → Bool

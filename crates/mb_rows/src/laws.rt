@@ -1,9 +1,10 @@
-ghost use Rattle.mb_rows.specs.Laws.{RowsAreFolded, FirstAreFree, MarksAreEnough, WalksEnd};
+ghost use Rattle.mb_rows.specs.Laws.{RowsAreSums, RowsAreFolded, FirstAreFree, MarksAreEnough, WalksEnd};
 
-/// The law of folded rows: wherever the constraints are met, a folded row says of the first K symbols what the LT row
-/// says of all, and whatever the first K symbols are, the others can be such that the constraints are met. It does
-/// nothing.
+/// The law of LT rows and folded rows: an LT row sums values to what its triple adds up; wherever the constraints are
+/// met, the folded row says of the first K symbols what the LT row says of all; and whatever the first K symbols are,
+/// the others can be such that the constraints are met. It does nothing.
 pub fn rows_fold()
+    ensures sums { RowsAreSums }
     ensures folded { RowsAreFolded }
     ensures free { FirstAreFree }
 {}
