@@ -5,3 +5,4 @@ pub mod FoldLemmas
 pub mod CodeLemmas
 pub mod ValueLemmas
 pub mod MarkCount
+pub mod DeterminedLemmas

@@ -19,12 +19,12 @@ unfoldable pub total : (ℕ → Bool) → (ℕ → Bool) → ℕ → Bool
 total f v zero = false
 total f v (suc n) = plus (f n && v n) (total f v n)
 
-total_same : (f g v w : ℕ → Bool) (n : ℕ) → ((i : ℕ) → i < n → (f i && v i) ≡ (g i && w i)) → total f v n ≡ total g w n
+pub total_same : (f g v w : ℕ → Bool) (n : ℕ) → ((i : ℕ) → i < n → (f i && v i) ≡ (g i && w i)) → total f v n ≡ total g w n
 unfolding total
 total_same f g v w zero e = refl
 total_same f g v w (suc n) e = ap₂ plus (e n (omega arith)) (total_same f g v w n (λ i p. e i (omega arith)))
 
-total_none : (f v : ℕ → Bool) (n : ℕ) → ((i : ℕ) → v i ≡ false) → total f v n ≡ false
+pub total_none : (f v : ℕ → Bool) (n : ℕ) → ((i : ℕ) → v i ≡ false) → total f v n ≡ false
 unfolding total
 total_none f v zero e = refl
 total_none f v (suc n) e = ap₂ (λ (b x : Bool). plus (f n && b) x) (e n) (total_none f v n e) ∙ ap (λ (b : Bool). plus b false) (and_none (f n))
@@ -170,7 +170,7 @@ plain_total k s h m v q =
 
 -- ---- where the constraints are met, each symbol is what it is the sum of
 
-abbrev Met : RaptorCode → (ℕ → Bool) → Type 0
+abbrev pub Met : RaptorCode → (ℕ → Bool) → Type 0
 Met c v = (i : ℕ) → i < c.row.s + c.h → total (in_constraint c i) v (l_of c) ≡ false
 
 equal_bits : (a b : Bool) → plus a b ≡ false → b ≡ a
@@ -205,16 +205,16 @@ symbol_met_by c v m met q (inr r) =
     ∙ sym (added_half c (c.row.s + (m - (c.row.k + c.row.s))) (m - (c.row.k + c.row.s)) v refl)
     ∙ own_value c v (c.row.s + (m - (c.row.k + c.row.s))) met (omega arith) ∙ ap v (sym number)
 
-symbol_met : (c : RaptorCode) (v : ℕ → Bool) (m : ℕ) → Met c v → m < l_of c → total (symbol_set c.row.k c.row.s c.h m) v c.row.k ≡ v m
+pub symbol_met : (c : RaptorCode) (v : ℕ → Bool) (m : ℕ) → Met c v → m < l_of c → total (symbol_set c.row.k c.row.s c.h m) v c.row.k ≡ v m
 symbol_met c v m met q = symbol_met_by c v m met q (cases_lt m (c.row.k + c.row.s))
 
-at_front : (k i : ℕ) (values : List Bool) → i < k → at_place values i ≡ at_place (take k values) i
+pub at_front : (k i : ℕ) (values : List Bool) → i < k → at_place values i ≡ at_place (take k values) i
 at_front zero i values q = absurd (omega arith)
 at_front (suc k) i [] q = refl
 at_front (suc k) zero (x ∷ values) q = refl
 at_front (suc k) (suc i) (x ∷ values) q = at_front k i values (omega arith)
 
-same_values : (c : RaptorCode) (esi : ℕ) (values : List Bool) → MeetsConstraints c values
+pub same_values : (c : RaptorCode) (esi : ℕ) (values : List Bool) → MeetsConstraints c values
     → value_over (lt_row c esi) values ≡ value_over (folded_row c esi) (take c.row.k values)
 same_values c esi values meets =
     let met : Met c (at_place values) = λ i q. sym (value_of_set (l_of c) (in_constraint c i) values) ∙ meets.each i q in
@@ -320,7 +320,7 @@ unfolding sum_at
 sum_of_places [] values n e = total_off (at_place values) n
 sum_of_places (q ∷ places) values n e =
     total_same (is_odd_in (q ∷ places)) (λ i. plus (q == i) (is_odd_in places i)) (at_place values) (at_place values) n
-      (λ i p. ap (λ (b : Bool). b && at_place values i) (odd_more q places i))
+    (λ i p. ap (λ (b : Bool). b && at_place values i) (odd_more q places i))
     ∙ total_plus (λ i. q == i) (is_odd_in places) (at_place values) n
     ∙ ap₂ plus (one_value_by values q n e (cases_lt q n)) (sum_of_places places values n e)
 

@@ -1,11 +1,13 @@
 -- What holds of the rows of all codes.
-use Rattle.std.specs.Prelude.{◌≡◌, ℕ, ◌*◌, ◌<◌, ◌≤◌, Bool, List, length, find, nat_lt, IsSome}
+use Rattle.std.specs.Prelude.{◌≡◌, ◌↔◌, ℕ, ◌*◌, ◌<◌, ◌≤◌, Bool, List, map, length, find, nat_lt, IsSome}
 use Rattle.mb_tables.specs.Limits.{choose, half}
-use Rattle.mb_linear.specs.Row.{value_over}
+use Rattle.mb_linear.specs.Row.{zeros, value_over}
+use Rattle.mb_linear.specs.Span.{Solves, IsDetermined}
 use Rattle.mb_rows.specs.Code.{RaptorCode, l_of}
 use Rattle.mb_rows.specs.Triple.{triple_of}
 use Rattle.mb_rows.specs.Walk.{steps, taken, sum_at, lt_row}
 use Rattle.mb_rows.specs.Constraints.{marks}
+use Rattle.mb_rows.specs.Determined.{Determines, DetermineBlock}
 use Rattle.mb_rows.specs.Folding.{IsFolded, HasRest, folded_row}
 
 -- the LT row of an ESI sums values to what its triple adds up, one symbol after the other
@@ -28,3 +30,13 @@ MarksAreEnough = (h : ℕ) → 1 ≤ h → length (marks h) ≡ choose h (half h
 -- L' steps of a walk come to a place below L
 abbrev pub WalksEnd : Type 0
 WalksEnd = (l a lp b : ℕ) → l ≤ lp → lp < 2 * l → 1 ≤ a → a < lp → b < lp → IsSome (find (λ place. nat_lt place l) (steps lp a lp b))
+
+-- ESIs determine another one exactly where its folded row is determined by theirs
+abbrev pub RowsDetermine : Type 0
+RowsDetermine = (c : RaptorCode) (esis : List ℕ) (esi : ℕ)
+    → Determines c esis esi ↔ IsDetermined c.row.k (map (folded_row c) esis) (folded_row c esi)
+
+-- ESIs determine the block exactly where the zeros alone solve their folded rows
+abbrev pub RowsDetermineBlock : Type 0
+RowsDetermineBlock = (c : RaptorCode) (esis : List ℕ)
+    → DetermineBlock c esis ↔ ((first : List Bool) → Solves c.row.k (map (folded_row c) esis) first → first ≡ zeros c.row.k)

@@ -6,3 +6,4 @@ pub mod Constraints
 pub mod Folding
 pub mod Kept
 pub mod Laws
+pub mod Determined

@@ -1,4 +1,4 @@
-ghost use Rattle.mb_rows.specs.Laws.{RowsAreSums, RowsAreFolded, FirstAreFree, MarksAreEnough, WalksEnd};
+ghost use Rattle.mb_rows.specs.Laws.{RowsAreSums, RowsAreFolded, FirstAreFree, MarksAreEnough, WalksEnd, RowsDetermine, RowsDetermineBlock};
 
 /// The law of LT rows and folded rows: an LT row sums values to what its triple adds up; wherever the constraints are
 /// met, the folded row says of the first K symbols what the LT row says of all; and whatever the first K symbols are,
@@ -14,4 +14,11 @@ pub fn rows_fold()
 pub fn rows_are_there()
     ensures marks { MarksAreEnough }
     ensures walks { WalksEnd }
+{}
+
+/// The law of what ESIs determine: it follows from K unknowns and their folded rows as from all L and the constraints.
+/// It does nothing.
+pub fn rows_determine()
+    ensures one { RowsDetermine }
+    ensures block { RowsDetermineBlock }
 {}

@@ -14,5 +14,5 @@ mod walk;
 
 pub use code::Code;
 pub use fault::CodeFault;
-pub use laws::{rows_are_there, rows_fold};
+pub use laws::{rows_are_there, rows_determine, rows_fold};
 pub use triple::Triple;
