@@ -119,9 +119,10 @@ other-block : (n a k t place : ℕ) (bytes words new_bytes new_words piece : Lis
 unfolding seen_from passed
 other-block n a k t place bytes words new_bytes new_words piece len p outside =
     same-seen (λ e. bit_in words (a + e)) (λ e. bit_in new_words (a + e)) (pair_from a t bytes) (pair_from a t new_bytes) k 0
-    (λ e least most. let other = outside e (omega (arith, most)) in
-    (p.flips.others (a + e) other,
-     ap (λ xs. let pair : Pair = record { esi = e; symbol = xs } in pair) (other-piece n t (a + e) bytes words new_bytes new_words piece place len p other)))
+    (λ e least most. let other = outside e (omega (arith, most)) in (
+      p.flips.others (a + e) other,
+      ap (λ xs. let pair : Pair = record { esi = e; symbol = xs } in pair) (other-piece n t (a + e) bytes words new_bytes new_words piece place len p other),
+    ))
 
 -- ---- all blocks
 

@@ -104,11 +104,7 @@ fn hear_run(
 }
 
 /// Takes the blocks of a file out of their place, or starts them where nothing was heard.
-fn take_file(
-    alloc: Global,
-    file: &mut Option<BlocksRx>,
-    desc: &Desc,
-) -> Result<BlocksRx, Memory>
+fn take_file(alloc: Global, file: &mut Option<BlocksRx>, desc: &Desc) -> Result<BlocksRx, Memory>
     requires file { IfSome file.old (IsFileOf desc.now) }
     ensures file { IfOk result (IsFileOf desc.now) }
     ensures kept { IfOk result (λ f. f.kept ≡ kept_seen desc.now file.old) }

@@ -127,9 +127,19 @@ fn blocks_go_across_words(rt: HostRuntime) -> Result<(), Fail> {
             (2, place - 87)
         };
         assert!(rt; life.is_ready() == (turn >= 130));
-        let news = heard(&rt, alloc, &mut life, (sbn, esi as u16), LETTERS[(place % 5) as usize]);
+        let news = heard(
+            &rt,
+            alloc,
+            &mut life,
+            (sbn, esi as u16),
+            LETTERS[(place % 5) as usize],
+        );
         let first = u64::from(turn < 130);
-        let want = (first as u32, 1 - first as u32, 130_u64.saturating_sub(turn + 1));
+        let want = (
+            first as u32,
+            1 - first as u32,
+            130_u64.saturating_sub(turn + 1),
+        );
         assert_eq!(rt; news, want, "at {turn}");
     }
     let want = "abcdefghijklmno".repeat(alloc, 26)?;
