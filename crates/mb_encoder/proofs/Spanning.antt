@@ -1,0 +1,163 @@
+-- Rows that zeros alone solve are those of which each row is a sum, and no fewer rows are.
+use Rattle.std.proofs.Common.{◌≡◌, ℕ, zero, suc, ◌+◌, ◌-◌, ◌<◌, ◌≤◌, Bool, true, false, List, [], ◌∷◌, ◌++◌, length, map, refl, ap, ap₂, sym, subst, ◌∙◌, arith}
+use Rattle.std.specs.List.{AllByRecursion}
+use Rattle.mb_linear.specs.Row.{row_sum, zeros, added_if, chosen_sum, value_over, AreRows}
+use Rattle.mb_linear.specs.Span.{IsSumOf, Solves, IsNothing, AreIndependent}
+use Rattle.mb_linear.proofs.RowLemmas.{length_zeros, zeros_left, value_zeros, zero_values}
+use Rattle.mb_linear.proofs.SpanLemmas.{first_is_sum, later_is_sum, sum_through, sums_determined}
+use Rattle.mb_linear.proofs.Elimination.{padded, chosen_padded}
+use Rattle.mb_linear.proofs.Deciding.{Decided, Decided.Sum, Decided.Differs, decided, each_is_sum}
+use Rattle.mb_linear.proofs.Independence.{independent_sums_few}
+use Rattle.mb_elim.specs.Kept.{firsts}
+use Rattle.mb_elim.proofs.Snoc.{length_firsts, all_snoc, all_firsts}
+
+-- ---- values that each row sums to zero
+
+later_zeros : (n : ℕ) (b : Bool) (v : Bool) (values : List Bool) → value_over (true ∷ zeros n) (v ∷ values) ≡ false → v ≡ false
+unfolding value_over
+later_zeros n b false values e = refl
+later_zeros n b true values e = absurd (let no = value_zeros n values in cc)
+
+pub zero_for_all : (n : ℕ) (values : List Bool) → length values ≡ n → ((row : List Bool) → length row ≡ n → value_over row values ≡ false) → values ≡ zeros n
+unfolding zeros value_over
+zero_for_all zero [] e f = refl
+zero_for_all zero (v ∷ values) e f = absurd (omega arith)
+zero_for_all (suc n) [] e f = absurd (omega arith)
+zero_for_all (suc n) (v ∷ values) e f =
+    let e2 : length values ≡ n = omega arith in
+    ap₂ (λ (b : Bool) (bs : List Bool). b ∷ bs) (later_zeros n v v values (f (true ∷ zeros n) (ap suc (length_zeros n))))
+    (zero_for_all n values e2 (λ row p. f (false ∷ row) (ap suc p)))
+
+-- where each row is a sum of the rows, the zeros alone solve these
+pub spanned_zeros : (n : ℕ) (rows : List (List Bool)) → AreRows n rows → ((row : List Bool) → length row ≡ n → IsSumOf n rows row)
+    → (values : List Bool) → Solves n rows values → values ≡ zeros n
+spanned_zeros n rows w all values s = zero_for_all n values s.places (λ row e. sums_determined n rows row w (all row e) values s)
+
+sum_by : (n : ℕ) (rows : List (List Bool)) (row : List Bool) → ((values : List Bool) → Solves n rows values → values ≡ zeros n) → Decided n rows row → IsSumOf n rows row
+sum_by n rows row only (Sum s) = s
+sum_by n rows row only (Differs values s v) =
+    let no : value_over row values ≡ false = ap (value_over row) (only values s) ∙ zero_values n row in absurd (cc (no, v))
+
+-- and the other way round
+pub zeros_span : (n : ℕ) (rows : List (List Bool)) → AreRows n rows → ((values : List Bool) → Solves n rows values → values ≡ zeros n)
+    → (row : List Bool) → length row ≡ n → IsSumOf n rows row
+zeros_span n rows w only row e = sum_by n rows row only (decided n rows row w e)
+
+-- ---- the rows with one place set
+
+unfoldable pub units : ℕ → List (List Bool)
+units zero = []
+units (suc n) = (true ∷ zeros n) ∷ map padded (units n)
+
+padded_rows : (n : ℕ) (rows : List (List Bool)) → AreRows n rows → AreRows (suc n) (map padded rows)
+unfolding padded
+padded_rows n [] w = tt
+padded_rows n (row ∷ rows) w = (ap suc w.0, padded_rows n rows w.1)
+
+padded_count : (rows : List (List Bool)) → length (map padded rows) ≡ length rows
+padded_count [] = refl
+padded_count (row ∷ rows) = ap suc (padded_count rows)
+
+pub units_are_rows : (n : ℕ) → AreRows n (units n)
+unfolding units
+units_are_rows zero = tt
+units_are_rows (suc n) = (ap suc (length_zeros n), padded_rows n (units n) (units_are_rows n))
+
+pub length_units : (n : ℕ) → length (units n) ≡ n
+unfolding units
+length_units zero = refl
+length_units (suc n) = ap suc (padded_count (units n) ∙ length_units n)
+
+one_unit : (n : ℕ) (c : Bool) (choice : List Bool) → length choice ≡ n → added_if c (true ∷ zeros n) (padded choice) ≡ c ∷ choice
+unfolding padded row_sum
+one_unit n false choice e = refl
+one_unit n true choice e = ap (λ (bs : List Bool). true ∷ bs) (zeros_left n choice e)
+
+-- the sum of the chosen ones is the choice
+pub chosen_units : (n : ℕ) (choice : List Bool) → length choice ≡ n → chosen_sum n choice (units n) ≡ choice
+unfolding units chosen_sum zeros
+chosen_units zero [] e = refl
+chosen_units zero (c ∷ choice) e = absurd (omega arith)
+chosen_units (suc n) [] e = absurd (omega arith)
+chosen_units (suc n) (c ∷ choice) e =
+    let e2 : length choice ≡ n = omega arith in
+    ap (added_if c (true ∷ zeros n)) (chosen_padded n choice (units n) ∙ ap padded (chosen_units n choice e2)) ∙ one_unit n c choice e2
+
+nothing_is_zeros : (n : ℕ) (choice : List Bool) → choice ≡ zeros n → IsNothing choice
+unfolding zeros
+nothing_is_zeros zero choice e = nothing_empty choice e
+  where
+    nothing_empty : (choice : List Bool) → choice ≡ [] → IsNothing choice
+    nothing_empty [] e = tt
+    nothing_empty (c ∷ choice) e = absurd (cc)
+nothing_is_zeros (suc n) [] e = tt
+nothing_is_zeros (suc n) (c ∷ choice) e = (cc, nothing_is_zeros n choice cc)
+
+units_independent : (n : ℕ) → AreIndependent n (units n)
+units_independent n choice l z = nothing_is_zeros n choice (sym (chosen_units n choice (l ∙ length_units n)) ∙ z)
+
+pub all_sums : (n : ℕ) (rows sums : List (List Bool)) → AreRows n sums → ((row : List Bool) → length row ≡ n → IsSumOf n rows row) → AllByRecursion (IsSumOf n rows) sums
+all_sums n rows [] w all = tt
+all_sums n rows (sum ∷ sums) w all = (all sum w.0, all_sums n rows sums w.1 all)
+
+-- rows of which each row is a sum are as many as places
+pub spanning_many : (n : ℕ) (rows : List (List Bool)) → AreRows n rows → ((row : List Bool) → length row ≡ n → IsSumOf n rows row) → n ≤ length rows
+spanning_many n rows w all =
+    let few = independent_sums_few n rows (units n) w (all_sums n rows (units n) (units_are_rows n) all) (units_independent n) in
+    let many = length_units n in omega arith
+
+-- ---- one row that is a sum of those before it
+
+-- the first m rows are sums of fewer
+record Fewer (n : ℕ) (f : ℕ → List Bool) (m : ℕ) : Type 0 where
+  pub rows : List (List Bool)
+  pub count : length rows < m
+  pub are : AreRows n rows
+  pub sums : AllByRecursion (IsSumOf n rows) (firsts f m)
+
+all_later : (n : ℕ) (rows : List (List Bool)) (row : List Bool) (others : List (List Bool)) → AllByRecursion (IsSumOf n rows) others → AllByRecursion (IsSumOf n (row ∷ rows)) others
+all_later n rows row [] s = tt
+all_later n rows row (other ∷ others) s = (later_is_sum n rows row other s.0, all_later n rows row others s.1)
+
+fewer_one : (n : ℕ) (f : ℕ → List Bool) (m : ℕ) → ((i : ℕ) → length (f i) ≡ n) → IsSumOf n (firsts f m) (f m) → Fewer n f (suc m)
+unfolding firsts
+fewer_one n f m long s = record {
+  rows = firsts f m;
+  count = let e = length_firsts f m in omega arith;
+  are = all_firsts (λ row. length row ≡ n) f m (λ i p. long i);
+  sums = all_snoc (IsSumOf n (firsts f m)) (firsts f m) (f m) (each_is_sum n (firsts f m) (all_firsts (λ row. length row ≡ n) f m (λ i p. long i))) s;
+}
+
+fewer_more : (n : ℕ) (f : ℕ → List Bool) (m : ℕ) → ((i : ℕ) → length (f i) ≡ n) → Fewer n f m → Fewer n f (suc m)
+unfolding firsts
+fewer_more n f m long few = record {
+  rows = f m ∷ few.rows;
+  count = let c = few.count in omega arith;
+  are = (long m, few.are);
+  sums = all_snoc (IsSumOf n (f m ∷ few.rows)) (firsts f m) (f m) (all_later n few.rows (f m) (firsts f m) few.sums) (first_is_sum n few.rows (f m) (long m));
+}
+
+fewer_all : (n : ℕ) (f : ℕ → List Bool) (m d : ℕ) → ((i : ℕ) → length (f i) ≡ n) → IsSumOf n (firsts f m) (f m) → Fewer n f (suc m + d)
+fewer_all n f m zero long s = let same : suc m + zero ≡ suc m = omega arith in rw same (fewer_one n f m long s)
+fewer_all n f m (suc d) long s = let same : suc m + suc d ≡ suc (suc m + d) = omega arith in rw same (fewer_more n f (suc m + d) long (fewer_all n f m d long s))
+
+-- where n rows have one that is a sum of those before it, more than the zeros solve them
+pub dependent_rows : (n : ℕ) (f : ℕ → List Bool) (m : ℕ) → ((i : ℕ) → length (f i) ≡ n) → m < n → IsSumOf n (firsts f m) (f m)
+    → ((values : List Bool) → Solves n (firsts f n) values → values ≡ zeros n) → ⊥
+dependent_rows n f m long p s only =
+    let whole : suc m + (n - suc m) ≡ n = omega arith in
+    let few : Fewer n f n = subst (Fewer n f) whole (fewer_all n f m (n - suc m) long s) in
+    let are : AreRows n (firsts f n) = all_firsts (λ row. length row ≡ n) f n (λ i q. long i) in
+    let many = spanning_many n few.rows few.are (λ row e. sum_through n few.rows (firsts f n) row few.are few.sums (zeros_span n (firsts f n) are only row e)) in
+    let count = few.count in omega arith
+
+-- ---- maps
+
+pub map_firsts : {A : Type 0} → (g : ℕ → A) (n : ℕ) → map g (firsts (λ i. i) n) ≡ firsts g n
+unfolding firsts
+map_firsts g zero = refl
+map_firsts g (suc n) = map_snoc g (firsts (λ i. i) n) n ∙ ap (λ (xs : List _). xs ++ g n ∷ []) (map_firsts g n)
+  where
+    map_snoc : {A : Type 0} → (g : ℕ → A) (xs : List ℕ) (x : ℕ) → map g (xs ++ x ∷ []) ≡ map g xs ++ g x ∷ []
+    map_snoc g [] x = refl
+    map_snoc g (y ∷ xs) x = ap (λ (l : List _). g y ∷ l) (map_snoc g xs x)

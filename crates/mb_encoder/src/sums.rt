@@ -1,0 +1,43 @@
+ghost use Rattle.std.specs.Prelude.{◌≡◌, ℕ, ◌+◌, ◌*◌, ◌/◌, ◌^◌, ◌<◌, ◌≤◌, length, slice_index};
+ghost use Rattle.mb_bits.specs.BitRow.{row_of};
+ghost use Rattle.mb_elim.specs.Values.{byte_at, byte_sum};
+ghost use Rattle.mb_rows.specs.Code.{l_of};
+ghost use Rattle.mb_rows.specs.Constraints.{constraint_row};
+ghost use Rattle.mb_encoder.specs.Symbols.{SumToZero, symbols_of};
+
+use mb_bits::{has_bit, xor_into};
+use mb_rows::Code;
+
+/// Puts the sum of the symbols at the places that a row has set, of the first `count`.
+pub(crate) fn put_sum(symbols: &[u8], row: &[u64], count: u16, out: &mut [u8])
+    requires row { count ≤ 64 * length row.now }
+    requires symbols { length out.old * count ≤ length symbols.now }
+    ensures sum { (b : ℕ) → b < length out.old → slice_index out.new b ≡ byte_sum b (row_of count row.now) (symbols_of (length out.old) count symbols.now) }
+    ensures count { length out.new ≡ length out.old }
+{
+    out.fill(0);
+    let t = out.len();
+    for place in 0..usize::from(count) {
+        if has_bit(row, place) {
+            let at = t * place;
+            xor_into(out, &symbols[at..at + t]);
+        }
+    }
+}
+
+/// Puts the LDPC and half symbols behind the first K: each is what the others of its constraint sum to.
+pub(crate) fn put_rest(code: &Code, t: usize, row: &mut [u64], symbols: &mut [u8])
+    requires row { length row.old ≡ (l_of code.now + 63) / 64 }
+    requires symbols { length symbols.old ≡ t * l_of code.now }
+    ensures count { length symbols.new ≡ length symbols.old }
+    ensures first { (j : ℕ) → j < t * code.now.row.k → slice_index symbols.new j ≡ slice_index symbols.old j }
+    ensures bytes { (j : ℕ) → slice_index symbols.new j < 2 ^ 8 }
+    ensures meet { (i : ℕ) → i < code.now.row.s + code.now.h → SumToZero t (constraint_row code.now i) (symbols_of t (l_of code.now) symbols.new) }
+{
+    let k = code.k();
+    for m in k..code.l() {
+        code.constraint(m - k, row);
+        let (known, rest) = symbols.split_at_mut(t * usize::from(m));
+        put_sum(known, row, m, &mut rest[..t]);
+    }
+}
