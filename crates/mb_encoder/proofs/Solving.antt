@@ -213,3 +213,19 @@ summed_at c t w l esi words symbols items out e f g r sum b p =
     sum b (omega arith)
     ∙ ap₂ (λ (n v : ℕ). byte_sum b (row_of n words) (symbols_of v n symbols)) e f
     ∙ ap₂ (λ (row : List Bool) (xs : List ℕ). byte_sum b row (symbols_of t (l_of c) xs)) r g
+
+-- ---- a block has one symbol at an ESI
+
+pub one_symbol : (c : RaptorCode) (t : ℕ) (sources : List (List ℕ)) (esi : ℕ) (one other : List ℕ)
+    → IsSymbolAt c t sources esi one → IsSymbolAt c t sources esi other → one ≡ other
+one_symbol c t sources esi one other x y =
+    let long = x.is_symbol.long in
+    same_number_lists one other (x.is_symbol.long ∙ sym y.is_symbol.long)
+    (λ b p. sym (x.each x.some x.solve b (omega arith)) ∙ y.each x.some x.solve b (omega arith))
+
+pub source_symbol : (c : RaptorCode) (t : ℕ) (sources : List (List ℕ)) (esi : ℕ) (symbol : List ℕ)
+    → esi < length sources → length (slice_index_or sources esi []) ≡ t → IsSymbolAt c t sources esi symbol → symbol ≡ slice_index_or sources esi []
+source_symbol c t sources esi symbol p e x =
+    let long = x.is_symbol.long in
+    same_number_lists symbol (slice_index_or sources esi []) (x.is_symbol.long ∙ sym e)
+    (λ b q. sym (x.each x.some x.solve b (omega arith)) ∙ pair_at c t esi x.some sources x.solve p b (omega arith))

@@ -4,3 +4,4 @@ pub mod Usable
 pub mod Encoder
 pub mod Kept
 pub mod Faults
+pub mod Laws

@@ -74,6 +74,13 @@ impl Intermediate {
         Ok(Intermediate { code, t, symbols })
     }
 
+    /// T, the bytes of a symbol.
+    pub fn t(&self) -> u16
+        ensures { result ≡ self.now.t }
+    {
+        self.t
+    }
+
     /// Puts the encoding symbol at an ESI (RFC 5053 section 5.4.4.3): a source symbol at one below K, and a repair
     /// symbol at each other one.
     pub fn symbol(&self, esi: u16, out: &mut [u8])

@@ -2,8 +2,11 @@
 //! way of its intermediate symbols.
 #![tactic(auto)]
 
+#[cfg(test)]
+mod encoder_tests;
 mod fault;
 mod intermediate;
+mod laws;
 mod make;
 mod sizes;
 mod sources;
@@ -11,4 +14,5 @@ mod sums;
 
 pub use fault::EncodeFault;
 pub use intermediate::Intermediate;
+pub use laws::symbols_are_one;
 pub use sizes::usable;
