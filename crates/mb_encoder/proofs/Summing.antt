@@ -1,7 +1,10 @@
 -- Sums of symbols, one place after the other, and the LDPC and half symbols that are put behind the first.
-use Rattle.std.proofs.Common.{◌≡◌, ℕ, zero, suc, ◌+◌, ◌-◌, ◌*◌, ◌<◌, ◌≤◌, ◌⊎◌, inl, inr, ◌||◌, Bool, true, false, List, [], ◌∷◌, ◌++◌, length, slice_index, slice_index_or, bit_xor, refl, ap, ap₂, sym, ◌∙◌, arith}
+use Rattle.std.proofs.Common.{◌≡◌, ℕ, zero, suc, ◌+◌, ◌-◌, ◌*◌, ◌/◌, ◌%◌, ◌<◌, ◌≤◌, ◌⊎◌, inl, inr, ◌==◌, ◌||◌, min, Bool, true, false, List, [], ◌∷◌, ◌++◌, length, slice_index, slice_index_or, bit_xor, refl, ap, ap₂, sym, ◌∙◌, arith}
 use Rattle.std.proofs.Math.Nat.{mul-le-mul_left}
 use Rattle.std.specs.Int.Bits.{xor_self, xor_zero_r}
+use Rattle.std.specs.Int.{bit_at}
+use Rattle.std.proofs.lemmas.Nat.Bits.{bit_at-zero}
+use Rattle.mb_linear.specs.Row.{zeros}
 use Rattle.std.proofs.lemmas.Bool.{cases_lt, eq-eqb, ne_eqb}
 use Rattle.mb_bits.specs.BitRow.{bit_in, row_from, row_of}
 use Rattle.mb_bits.proofs.BitLemmas.{Order, Order.Below, Order.From, order}
@@ -14,7 +17,7 @@ use Rattle.mb_rows.specs.Places.{row_from_set}
 use Rattle.mb_rows.specs.Constraints.{in_constraint, constraint_row}
 use Rattle.mb_rows.proofs.CodeLemmas.{added_in, own_outside}
 use Rattle.mb_encoder.specs.Symbols.{symbol_of, symbols_of}
-use Rattle.mb_encoder.proofs.Lifting.{chosen, byte_snoc, byte_more, byte_past}
+use Rattle.mb_encoder.proofs.Lifting.{chosen, byte_snoc, byte_more, byte_past, byte_padded}
 
 -- ---- the n-th of the first values
 
@@ -73,12 +76,56 @@ sum_nought : (b : ℕ) (row : List ℕ) (us : List (List ℕ)) → 0 ≡ byte_su
 unfolding byte_sum row_from
 sum_nought b row us = refl
 
-pub sum_none : (b old : ℕ) (row : List ℕ) (us : List (List ℕ)) → old ≡ 0 → old ≡ byte_sum b (row_of 0 row) us
-sum_none b old row us e = e ∙ sum_nought b row us
+pub sum_none : (b n old : ℕ) (row : List ℕ) (us : List (List ℕ)) → n ≡ 0 → old ≡ 0 → old ≡ byte_sum b (row_of n row) us
+sum_none b n old row us e f = f ∙ sum_nought b row us ∙ ap (λ (m : ℕ). byte_sum b (row_of m row) us) (sym e)
 
 pub sum_done : (t u count place b old : ℕ) (row symbols : List ℕ) → t ≡ u → place ≡ count
     → old ≡ byte_sum b (row_of place row) (symbols_of t count symbols) → old ≡ byte_sum b (row_of count row) (symbols_of u count symbols)
 sum_done t u count place b old row symbols e f g = g ∙ ap₂ (λ (n w : ℕ). byte_sum b (row_of n row) (symbols_of w count symbols)) f e
+
+row_split : (m d at behind : ℕ) (words : List ℕ) → behind ≡ at + m → row_from (m + d) at words ≡ row_from m at words ++ row_from d behind words
+unfolding row_from
+row_split zero d at behind words e =
+    let same : zero + d ≡ d = omega arith in
+    let here : at ≡ behind = omega arith in ap₂ (λ (n i : ℕ). row_from n i words) same here
+row_split (suc m) d at behind words e =
+    let same : suc m + d ≡ suc (m + d) = omega arith in
+    ap (λ (n : ℕ). row_from n at words) same ∙ ap (λ (r : List Bool). bit_in words at ∷ r) (row_split m d (suc at) behind words (omega arith))
+
+-- ---- a word with no place set
+
+clear_bit : (i p : ℕ) (words : List ℕ) → slice_index words i ≡ 0 → p / 64 ≡ i → bit_in words p ≡ false
+clear_bit i p words e q =
+    ap (λ (n : ℕ). bit_at (slice_index words n) (p % 64) == 1) q ∙ ap (λ (w : ℕ). bit_at w (p % 64) == 1) e ∙ ap (λ (x : ℕ). x == 1) (bit_at-zero (p % 64))
+
+clear_row : (i d at : ℕ) (words : List ℕ) → slice_index words i ≡ 0 → 64 * i ≤ at → at + d ≤ 64 * i + 64 → row_from d at words ≡ zeros d
+unfolding row_from zeros
+clear_row i zero at words e p q = refl
+clear_row i (suc d) at words e p q =
+    ap₂ (λ (b : Bool) (row : List Bool). b ∷ row) (clear_bit i at words e (omega arith)) (clear_row i d (suc at) words e (omega arith) (omega arith))
+
+pub clear_word : (i first end b : ℕ) (words : List ℕ) (us : List (List ℕ)) → slice_index words i ≡ 0 → 64 * i ≤ first → first ≤ end → end ≤ 64 * i + 64
+    → byte_sum b (row_of first words) us ≡ byte_sum b (row_of end words) us
+clear_word i first end b words us e p q r =
+    let whole : end ≡ first + (end - first) = omega arith in
+    sym (ap (λ (n : ℕ). byte_sum b (row_of n words) us) whole
+    ∙ ap (λ (row : List Bool). byte_sum b row us) (row_split first (end - first) 0 first words (omega arith)
+    ∙ ap (λ (row : List Bool). row_of first words ++ row) (clear_row i (end - first) first words e p (omega arith)))
+    ∙ byte_padded b (end - first) (row_of first words) us)
+
+pub word_unset : (t count i next b old : ℕ) (row symbols : List ℕ) → next ≡ suc i → 64 * i ≤ count → slice_index row i ≡ 0
+    → old ≡ byte_sum b (row_of (min count (64 * i)) row) (symbols_of t count symbols) → old ≡ byte_sum b (row_of (min count (64 * next)) row) (symbols_of t count symbols)
+word_unset t count i next b old row symbols e p none so_far =
+    so_far ∙ clear_word i (min count (64 * i)) (min count (64 * next)) b row (symbols_of t count symbols) none (omega arith) (omega arith) (omega arith)
+
+pub word_set : (t u count i next first end b old new : ℕ) (row symbols : List ℕ) → u ≡ t → first ≡ 64 * i → next ≡ suc i → 64 * i ≤ count → end ≡ min count (64 * i + 64)
+    → (old ≡ byte_sum b (row_of first row) (symbols_of u count symbols) → new ≡ byte_sum b (row_of end row) (symbols_of u count symbols))
+    → old ≡ byte_sum b (row_of (min count (64 * i)) row) (symbols_of t count symbols) → new ≡ byte_sum b (row_of (min count (64 * next)) row) (symbols_of t count symbols)
+word_set t u count i next first end b old new row symbols e f g p h added so_far =
+    let begin : min count (64 * i) ≡ first = omega arith in
+    let last : end ≡ min count (64 * next) = omega arith in
+    added (so_far ∙ ap₂ (λ (n w : ℕ). byte_sum b (row_of n row) (symbols_of w count symbols)) begin (sym e))
+    ∙ ap₂ (λ (n w : ℕ). byte_sum b (row_of n row) (symbols_of w count symbols)) last e
 
 -- ---- the symbols behind the first
 
@@ -106,15 +153,6 @@ own_place c i p e q = place_of_constraint c i p q ∙ ap (λ (b : Bool). b || ad
 later_place : (c : RaptorCode) (i p : ℕ) → c.row.k + i < p → p < l_of c → slice_index_or (constraint_row c i) p false ≡ false
 later_place c i p r q =
     place_of_constraint c i p q ∙ ap₂ (λ (a b : Bool). a || b) (ne_eqb p (c.row.k + i) (λ same. omega arith)) (own_outside c i p (omega arith))
-
-row_split : (m d at behind : ℕ) (words : List ℕ) → behind ≡ at + m → row_from (m + d) at words ≡ row_from m at words ++ row_from d behind words
-unfolding row_from
-row_split zero d at behind words e =
-    let same : zero + d ≡ d = omega arith in
-    let here : at ≡ behind = omega arith in ap₂ (λ (n i : ℕ). row_from n i words) same here
-row_split (suc m) d at behind words e =
-    let same : suc m + d ≡ suc (m + d) = omega arith in
-    ap (λ (n : ℕ). row_from n at words) same ∙ ap (λ (r : List Bool). bit_in words at ∷ r) (row_split m d (suc at) behind words (omega arith))
 
 -- a row sums the first symbols as far as there are any
 front_sum : (b m l : ℕ) (words : List ℕ) (us : List (List ℕ)) → length us ≡ m → m ≤ l → byte_sum b (row_of l words) us ≡ byte_sum b (row_of m words) us

@@ -1,7 +1,6 @@
 -- What holds of all encoding symbols.
 use Rattle.std.specs.Prelude.{◌≡◌, ℕ, ◌<◌, List, [], length, slice_index_or}
 use Rattle.mb_rows.specs.Code.{RaptorCode}
-use Rattle.mb_encoder.specs.Symbols.{IsSymbol}
 use Rattle.mb_encoder.specs.Solutions.{IsSymbolAt}
 
 -- a block has at most one symbol at an ESI

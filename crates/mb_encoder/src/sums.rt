@@ -5,10 +5,30 @@ ghost use Rattle.mb_rows.specs.Code.{l_of};
 ghost use Rattle.mb_rows.specs.Constraints.{constraint_row};
 ghost use Rattle.mb_encoder.specs.Symbols.{SumToZero, symbols_of};
 
-use mb_bits::{has_bit, xor_into};
+use mb_bits::{has_bit, words_for, xor_into};
 use mb_rows::Code;
 
-/// Puts the sum of the symbols at the places that a row has set, of the first `count`.
+// Adds the symbols at the places from `first` on to `end` that a row has set.
+fn add_places(symbols: &[u8], row: &[u64], first: usize, end: usize, out: &mut [u8])
+    requires order { first ≤ end }
+    requires row { end ≤ 64 * length row.now }
+    requires symbols { length out.old * end ≤ length symbols.now }
+    ensures sum { (count b : ℕ) → end ≤ count → b < length out.old →
+        slice_index out.old b ≡ byte_sum b (row_of first row.now) (symbols_of (length out.old) count symbols.now) →
+        slice_index out.new b ≡ byte_sum b (row_of end row.now) (symbols_of (length out.old) count symbols.now) }
+    ensures count { length out.new ≡ length out.old }
+{
+    let t = out.len();
+    for place in first..end {
+        if has_bit(row, place) {
+            let at = t * place;
+            xor_into(out, &symbols[at..at + t]);
+        }
+    }
+}
+
+/// Puts the sum of the symbols at the places that a row has set, of the first `count`. Most words of an LT row have
+/// no place set.
 pub(crate) fn put_sum(symbols: &[u8], row: &[u64], count: u16, out: &mut [u8])
     requires row { count ≤ 64 * length row.now }
     requires symbols { length out.old * count ≤ length symbols.now }
@@ -16,11 +36,11 @@ pub(crate) fn put_sum(symbols: &[u8], row: &[u64], count: u16, out: &mut [u8])
     ensures count { length out.new ≡ length out.old }
 {
     out.fill(0);
-    let t = out.len();
-    for place in 0..usize::from(count) {
-        if has_bit(row, place) {
-            let at = t * place;
-            xor_into(out, &symbols[at..at + t]);
+    let places = usize::from(count);
+    for i in 0..words_for(places) {
+        if row[i] != 0 {
+            let first = 64 * i;
+            add_places(symbols, row, first, places.min(first + 64), out);
         }
     }
 }
