@@ -8,6 +8,9 @@ ghost use Rattle.mb_encoder.specs.Symbols.{SumToZero, symbols_of};
 use mb_bits::{has_bit, words_for, xor_into};
 use mb_rows::Code;
 
+/// The places of a word of a row.
+const WORD: usize = 64;
+
 // Adds the symbols at the places from `first` on to `end` that a row has set.
 fn add_places(symbols: &[u8], row: &[u64], first: usize, end: usize, out: &mut [u8])
     requires order { first ≤ end }
@@ -39,8 +42,8 @@ pub(crate) fn put_sum(symbols: &[u8], row: &[u64], count: u16, out: &mut [u8])
     let places = usize::from(count);
     for i in 0..words_for(places) {
         if row[i] != 0 {
-            let first = 64 * i;
-            add_places(symbols, row, first, places.min(first + 64), out);
+            let first = WORD * i;
+            add_places(symbols, row, first, places.min(first + WORD), out);
         }
     }
 }
