@@ -64,6 +64,7 @@ impl Intermediate {
         ensures encoder { IfOk result (IsEncoderOf tables.now k t block.now) }
         ensures usable { IfOk result (λ _. IsUsable tables.now k) }
         ensures no_row { (result ≡ Err (EncodeFault.NoRow k)) ↔ All (λ (row : Row). row.k ≢ k) tables.now.rows }
+        ensures which { (n : ℕ) → result ≡ Err (EncodeFault.NoRow n) → n ≡ k }
         ensures unusable { (n : ℕ) → result ≡ Err (EncodeFault.Unusable n) → (n ≡ k) × (IsUsable tables.now k → ⊥) }
     {
         let code = code_of(alloc, tables, k)?;

@@ -1,4 +1,4 @@
-ghost use Rattle.std.specs.Prelude.{◌≡◌, ◌≢◌, ◌↔◌, Err, All, IfOk, IsTrue};
+ghost use Rattle.std.specs.Prelude.{◌≡◌, ◌≢◌, ◌↔◌, ℕ, Err, All, IfOk, IsTrue};
 ghost use Rattle.mb_tables.specs.declared.row.Row.{Row};
 ghost use Rattle.mb_rows.specs.Code.{RaptorCode, IsCodeOf, IsCode};
 ghost use Rattle.mb_encoder.specs.Usable.{IsUsable};
@@ -14,6 +14,7 @@ pub(crate) fn code_of(alloc: Global, tables: &Tables, k: u16) -> Result<Code, Co
     ensures limits { IfOk result IsCode }
     ensures one { IfOk result (λ code. (other : RaptorCode) → IsCodeOf tables.now k other → code ≡ other) }
     ensures no_row { (result ≡ Err (CodeFault.NoRow k)) ↔ All (λ (row : Row). row.k ≢ k) tables.now.rows }
+    ensures which { (n : ℕ) → result ≡ Err (CodeFault.NoRow n) → n ≡ k }
 {
     let Some(_row) = tables.row(k) else {
         return Err(CodeFault::NoRow(k));
@@ -29,6 +30,7 @@ pub(crate) fn code_of(alloc: Global, tables: &Tables, k: u16) -> Result<Code, Co
 pub fn usable(alloc: Global, tables: &Tables, k: u16) -> Result<bool, CodeFault>
     ensures usable { IfOk result (λ answer. IsTrue answer ↔ IsUsable tables.now k) }
     ensures no_row { (result ≡ Err (CodeFault.NoRow k)) ↔ All (λ (row : Row). row.k ≢ k) tables.now.rows }
+    ensures which { (n : ℕ) → result ≡ Err (CodeFault.NoRow n) → n ≡ k }
 {
     let code = code_of(alloc, tables, k)?;
     let found = offer_sources(alloc, &code)?;

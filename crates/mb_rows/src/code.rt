@@ -77,6 +77,7 @@ impl Code {
         ensures code { IfOk result (λ code. IsCodeOf tables.now k code) }
         ensures limits { IfOk result IsCode }
         ensures no_row { (result ≡ Err (CodeFault.NoRow k)) ↔ All (λ (row : Row). row.k ≢ k) tables.now.rows }
+        ensures which { (n : ℕ) → result ≡ Err (CodeFault.NoRow n) → n ≡ k }
     {
         let Some(row) = tables.row(k) else {
             return Err(CodeFault::NoRow(k));
