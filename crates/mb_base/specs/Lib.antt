@@ -14,3 +14,4 @@ pub use Rattle.mb_trace.specs.Number
 pub use Rattle.mb_trace.specs.Trace
 pub use Rattle.mb_trace.specs.RecordBuffer
 pub use Rattle.mb_trace.specs.TraceReader
+pub mod Generator

@@ -1,7 +1,12 @@
 //! The outside of the receiver under one name: its traits and what they mean, objects in memory, packet traces
-//! with numbers in bytes, and adapters over the system.
+//! with numbers in bytes, and adapters over the system. Beside them stands the generator of numbers that look random.
 #![tactic(auto)]
 
+mod generator;
+#[cfg(test)]
+mod generator_tests;
+
+pub use generator::{mix, word};
 pub use mb_memory::{Bytes, ListChance, MemLinks, MemSink, MemSource, MemStore, Numbers};
 pub use mb_outside::{
     Air, AirEvent, Chance, DATAGRAM_MAX, DatagramBuffer, Failed, Gate, Links, Memory, OpenGate,
