@@ -4,12 +4,11 @@ use Rattle.std.specs.Int.Bits.{xor_assoc, xor_self, xor_zero_r}
 use Rattle.std.proofs.lemmas.Nat.{xor_comm}
 use Rattle.mb_linear.specs.Row.{row_sum, zeros}
 use Rattle.mb_linear.specs.Echelon.{IsEchelon}
-use Rattle.mb_bits.proofs.BitLemmas.{Order, Order.Below, Order.From, order}
 use Rattle.mb_elim.specs.Offered.{Offered}
 use Rattle.mb_elim.specs.Kept.{firsts, row_at, reduced_rows, row_as_it_came, offered_of, IsKept}
 use Rattle.mb_elim.specs.Values.{byte_sum, AreSums, AreUnknowns}
 use Rattle.mb_elim.specs.Replay.{IsLinear, AreValues, IsHeld, unit}
-use Rattle.mb_elim.proofs.Snoc.{length_firsts}
+use Rattle.mb_elim.proofs.Snoc.{nth_firsts}
 use Rattle.mb_elim.proofs.Offering.{enough_words}
 use Rattle.mb_elim.proofs.Solving.{each_is_pivot}
 use Rattle.mb_elim.proofs.Viewed.{count_is, places_is}
@@ -23,7 +22,7 @@ xor_twice u a b = sym (
     ∙ ap (λ (x : ℕ). bit_xor x (bit_xor a b)) (xor_self u) ∙ xor_comm 0 (bit_xor a b) ∙ xor_zero_r (bit_xor a b)
     )
 
-byte_linear : (b : ℕ) (us : List (List ℕ)) (x y : List Bool) → length x ≡ length y → byte_sum b (row_sum x y) us ≡ bit_xor (byte_sum b x us) (byte_sum b y us)
+pub byte_linear : (b : ℕ) (us : List (List ℕ)) (x y : List Bool) → length x ≡ length y → byte_sum b (row_sum x y) us ≡ bit_xor (byte_sum b x us) (byte_sum b y us)
 unfolding byte_sum row_sum
 byte_linear b us [] [] e = sym (xor_zero_r 0)
 byte_linear b us [] (d ∷ y) e = absurd (omega arith)
@@ -42,13 +41,13 @@ byte_linear b (u ∷ us) (true ∷ x) (true ∷ y) e =
 sums_linear : (k : ℕ) (us : List (List ℕ)) → IsLinear k (λ b row. byte_sum b row us)
 sums_linear k us b x y p q = byte_linear b us x y (p ∙ sym q)
 
-byte_zeros : (b n : ℕ) (us : List (List ℕ)) → byte_sum b (zeros n) us ≡ 0
+pub byte_zeros : (b n : ℕ) (us : List (List ℕ)) → byte_sum b (zeros n) us ≡ 0
 unfolding byte_sum zeros
 byte_zeros b zero us = refl
 byte_zeros b (suc n) [] = refl
 byte_zeros b (suc n) (u ∷ us) = byte_zeros b n us
 
-byte_unit : (b k p : ℕ) (us : List (List ℕ)) → length us ≡ k → p < k → byte_sum b (unit k p) us ≡ slice_index (slice_index_or us p []) b
+pub byte_unit : (b k p : ℕ) (us : List (List ℕ)) → length us ≡ k → p < k → byte_sum b (unit k p) us ≡ slice_index (slice_index_or us p []) b
 unfolding byte_sum unit
 byte_unit b zero p us e q = absurd (omega arith)
 byte_unit b (suc k) p [] e q = absurd (omega arith)
@@ -56,31 +55,6 @@ byte_unit b (suc k) zero (u ∷ us) e q = ap (bit_xor (slice_index u b)) (byte_z
 byte_unit b (suc k) (suc p) (u ∷ us) e q =
     let e2 : length us ≡ k = omega arith in
     let q2 : p < k = omega arith in byte_unit b k p us e2 q2
-
--- ---- the n-th of the first values
-
-nth_before : {A : Type 0} → (xs : List A) (x d : A) (i : ℕ) → i < length xs → slice_index_or (xs ++ x ∷ []) i d ≡ slice_index_or xs i d
-nth_before [] x d i p = absurd (omega arith)
-nth_before (y ∷ xs) x d zero p = refl
-nth_before (y ∷ xs) x d (suc i) p = let p2 : i < length xs = omega arith in nth_before xs x d i p2
-
-nth_last : {A : Type 0} → (xs : List A) (x d : A) (i : ℕ) → length xs ≡ i → slice_index_or (xs ++ x ∷ []) i d ≡ x
-nth_last [] x d zero e = refl
-nth_last [] x d (suc i) e = absurd (omega arith)
-nth_last (y ∷ xs) x d zero e = absurd (omega arith)
-nth_last (y ∷ xs) x d (suc i) e = let e2 : length xs ≡ i = omega arith in nth_last xs x d i e2
-
-nth_by : {A : Type 0} → (f : ℕ → A) (d : A) (n i : ℕ) → i < suc n → (i < n → slice_index_or (firsts f n) i d ≡ f i) → Order i n
-    → slice_index_or (firsts f n ++ f n ∷ []) i d ≡ f i
-nth_by f d n i p ih (Below q) =
-    let long = length_firsts f n in nth_before (firsts f n) (f n) d i (omega arith) ∙ ih q
-nth_by f d n i p ih (From q) =
-    let same : n ≡ i = omega arith in nth_last (firsts f n) (f n) d i (length_firsts f n ∙ same) ∙ ap f same
-
-nth_firsts : {A : Type 0} → (f : ℕ → A) (d : A) (n i : ℕ) → i < n → slice_index_or (firsts f n) i d ≡ f i
-unfolding firsts
-nth_firsts f d zero i p = absurd (omega arith)
-nth_firsts f d (suc n) i p = nth_by f d n i p (nth_firsts f d n i) (order i n)
 
 -- ---- what the three steps do
 

@@ -1,8 +1,9 @@
 -- Lists that grow at their end.
-use Rattle.std.proofs.Common.{◌≡◌, ℕ, zero, suc, ◌<◌, Bool, List, [], ◌∷◌, ◌++◌, length, refl, ap, ap₂, ◌∙◌, arith}
+use Rattle.std.proofs.Common.{◌≡◌, ℕ, zero, suc, ◌<◌, Bool, List, [], ◌∷◌, ◌++◌, length, slice_index_or, refl, ap, ap₂, subst, ◌∙◌, arith}
 use Rattle.std.specs.List.{AllByRecursion}
 use Rattle.mb_linear.specs.Row.{added_if}
 use Rattle.mb_linear.specs.Echelon.{has_place, reduced, added_rows}
+use Rattle.mb_bits.proofs.BitLemmas.{Order, Order.Below, Order.From, order}
 use Rattle.mb_elim.specs.Kept.{firsts}
 
 pub length_snoc : {A : Type 0} → (xs : List A) (x : A) → length (xs ++ x ∷ []) ≡ suc (length xs)
@@ -18,6 +19,31 @@ pub firsts_same : {A : Type 0} → (f g : ℕ → A) (n : ℕ) → ((i : ℕ) �
 unfolding firsts
 firsts_same f g zero e = refl
 firsts_same f g (suc n) e = ap₂ (λ (xs : List _) (x : _). xs ++ x ∷ []) (firsts_same f g n (λ i p. e i (omega arith))) (e n (omega arith))
+
+-- ---- the n-th of the first values
+
+nth_before : {A : Type 0} → (xs : List A) (x d : A) (i : ℕ) → i < length xs → slice_index_or (xs ++ x ∷ []) i d ≡ slice_index_or xs i d
+nth_before [] x d i p = absurd (omega arith)
+nth_before (y ∷ xs) x d zero p = refl
+nth_before (y ∷ xs) x d (suc i) p = let p2 : i < length xs = omega arith in nth_before xs x d i p2
+
+nth_last : {A : Type 0} → (xs : List A) (x d : A) (i : ℕ) → length xs ≡ i → slice_index_or (xs ++ x ∷ []) i d ≡ x
+nth_last [] x d zero e = refl
+nth_last [] x d (suc i) e = absurd (omega arith)
+nth_last (y ∷ xs) x d zero e = absurd (omega arith)
+nth_last (y ∷ xs) x d (suc i) e = let e2 : length xs ≡ i = omega arith in nth_last xs x d i e2
+
+nth_by : {A : Type 0} → (f : ℕ → A) (d : A) (n i : ℕ) → i < suc n → (i < n → slice_index_or (firsts f n) i d ≡ f i) → Order i n
+    → slice_index_or (firsts f n ++ f n ∷ []) i d ≡ f i
+nth_by f d n i p ih (Below q) =
+    let long = length_firsts f n in nth_before (firsts f n) (f n) d i (omega arith) ∙ ih q
+nth_by f d n i p ih (From q) =
+    let same : n ≡ i = omega arith in nth_last (firsts f n) (f n) d i (length_firsts f n ∙ same) ∙ ap f same
+
+pub nth_firsts : {A : Type 0} → (f : ℕ → A) (d : A) (n i : ℕ) → i < n → slice_index_or (firsts f n) i d ≡ f i
+unfolding firsts
+nth_firsts f d zero i p = absurd (omega arith)
+nth_firsts f d (suc n) i p = nth_by f d n i p (nth_firsts f d n i) (order i n)
 
 -- ---- all of a list
 
@@ -37,6 +63,16 @@ pub all_firsts : {A : Type 0} → (P : A → Type 0) (f : ℕ → A) (n : ℕ) �
 unfolding firsts
 all_firsts P f zero e = tt
 all_firsts P f (suc n) e = all_snoc P (firsts f n) (f n) (all_firsts P f n (λ i p. e i (omega arith))) (e n (omega arith))
+
+pub all_at_by : {A : Type 0} → (P : A → Type 0) (f : ℕ → A) (n i : ℕ) → ((m : ℕ) → m < n → P (f m)) → P (f n) → i < suc n → Order i n → P (f i)
+all_at_by P f n i a l p (Below q) = a i q
+all_at_by P f n i a l p (From q) =
+    let same : n ≡ i = omega arith in subst (λ (m : ℕ). P (f m)) same l
+
+pub all_at : {A : Type 0} → (P : A → Type 0) (f : ℕ → A) (n : ℕ) → AllByRecursion P (firsts f n) → (i : ℕ) → i < n → P (f i)
+unfolding firsts
+all_at P f zero a i p = absurd (omega arith)
+all_at P f (suc n) a i p = all_at_by P f n i (all_at P f n (all_before P (firsts f n) (f n) a)) (all_last P (firsts f n) (f n) a) p (order i n)
 
 -- ---- reducing by one row more
 

@@ -13,7 +13,7 @@ use Rattle.mb_bits.specs.BitRow.{bit_in, row_of}
 use Rattle.mb_bits.proofs.BitLemmas.{Order, Order.Below, Order.From, order}
 use Rattle.mb_elim.specs.Kept.{firsts, row_at, reduced_rows}
 use Rattle.mb_elim.specs.Replay.{IsLinear, unit, cleared, IsHeld}
-use Rattle.mb_elim.proofs.Snoc.{length_firsts, all_before, all_last, all_firsts}
+use Rattle.mb_elim.proofs.Snoc.{length_firsts, all_before, all_last, all_firsts, all_at_by, all_at}
 use Rattle.mb_elim.proofs.RowsInWords.{length_row_from, place_row_from}
 use Rattle.mb_elim.proofs.Spans.{reduced_are_rows}
 
@@ -42,16 +42,6 @@ echelon_last (s ∷ rows) (q ∷ ps) r p l h =
 
 pub same_count : (f : ℕ → List Bool) (g : ℕ → ℕ) (n : ℕ) → length (firsts f n) ≡ length (firsts g n)
 same_count f g n = length_firsts f n ∙ sym (length_firsts g n)
-
-all_at_by : {A : Type 0} → (P : A → Type 0) (f : ℕ → A) (n i : ℕ) → ((m : ℕ) → m < n → P (f m)) → P (f n) → i < suc n → Order i n → P (f i)
-all_at_by P f n i a l p (Below q) = a i q
-all_at_by P f n i a l p (From q) =
-    let same : n ≡ i = omega arith in subst (λ (m : ℕ). P (f m)) same l
-
-all_at : {A : Type 0} → (P : A → Type 0) (f : ℕ → A) (n : ℕ) → AllByRecursion P (firsts f n) → (i : ℕ) → i < n → P (f i)
-unfolding firsts
-all_at P f zero a i p = absurd (omega arith)
-all_at P f (suc n) a i p = all_at_by P f n i (all_at P f n (all_before P (firsts f n) (f n) a)) (all_last P (firsts f n) (f n) a) p (order i n)
 
 pub own_pivot : (f : ℕ → List Bool) (g : ℕ → ℕ) (n : ℕ) → IsEchelon (firsts f n) (firsts g n) → (i : ℕ) → i < n → has_place (f i) (g i) ≡ true
 unfolding firsts

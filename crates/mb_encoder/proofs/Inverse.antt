@@ -5,48 +5,16 @@ use Rattle.std.specs.Int.Bits.{xor_zero_r}
 use Rattle.mb_linear.specs.Row.{row_sum, zeros, added_if, chosen_sum, AreRows}
 use Rattle.mb_linear.specs.Span.{IsSumOf, IsNothing, AreIndependent}
 use Rattle.mb_linear.proofs.RowLemmas.{length_row_sum, length_chosen_sum, sum_self, zeros_right, chosen_none, chosen_plus}
-use Rattle.mb_linear.proofs.Independence.{full_determines}
+use Rattle.mb_linear.proofs.Independence.{full_determines, choices_of, choices_long, choices_many, choices_sum}
+use Rattle.mb_linear.proofs.Spanning.{units, units_are_rows, length_units, chosen_units, all_sums}
 use Rattle.mb_elim.specs.Kept.{firsts}
 use Rattle.mb_elim.specs.Values.{byte_sum, AreSums}
 use Rattle.mb_elim.specs.Replay.{unit}
 use Rattle.mb_elim.proofs.Solving.{same_rows, length_unit}
-use Rattle.mb_elim.proofs.Snoc.{length_firsts}
+use Rattle.mb_elim.proofs.Snoc.{length_firsts, nth_firsts}
+use Rattle.mb_elim.proofs.Replaying.{byte_linear, byte_zeros, byte_unit}
 use Rattle.mb_encoder.specs.Symbols.{symbols_of}
-use Rattle.mb_encoder.proofs.Spanning.{units, units_are_rows, length_units, chosen_units, all_sums}
-use Rattle.mb_encoder.proofs.Lifting.{byte_linear, byte_zeros}
-use Rattle.mb_encoder.proofs.Summing.{nth_firsts, nth_symbol}
-
--- ---- the choices of sums
-
-choices_of : (n : ℕ) (rows sums : List (List Bool)) → AllByRecursion (IsSumOf n rows) sums → List (List Bool)
-choices_of n rows [] s = []
-choices_of n rows (sum ∷ sums) s = s.0.choice ∷ choices_of n rows sums s.1
-
-choices_long : (n : ℕ) (rows sums : List (List Bool)) (s : AllByRecursion (IsSumOf n rows) sums) → AreRows (length rows) (choices_of n rows sums s)
-unfolding choices_of
-choices_long n rows [] s = tt
-choices_long n rows (sum ∷ sums) s = (s.0.one_each, choices_long n rows sums s.1)
-
-choices_many : (n : ℕ) (rows sums : List (List Bool)) (s : AllByRecursion (IsSumOf n rows) sums) → length (choices_of n rows sums s) ≡ length sums
-unfolding choices_of
-choices_many n rows [] s = refl
-choices_many n rows (sum ∷ sums) s = ap suc (choices_many n rows sums s.1)
-
-added_choice : (n : ℕ) (rows : List (List Bool)) (c : Bool) (a b : List Bool) → AreRows n rows → length a ≡ length b
-    → chosen_sum n (added_if c a b) rows ≡ added_if c (chosen_sum n a rows) (chosen_sum n b rows)
-added_choice n rows false a b w e = refl
-added_choice n rows true a b w e = chosen_plus n a b rows w e
-
-choices_sum : (n : ℕ) (rows sums : List (List Bool)) (s : AllByRecursion (IsSumOf n rows) sums) (choice : List Bool) → AreRows n rows
-    → chosen_sum n (chosen_sum (length rows) choice (choices_of n rows sums s)) rows ≡ chosen_sum n choice sums
-unfolding choices_of chosen_sum
-choices_sum n rows [] s [] w = chosen_none n (length rows) rows
-choices_sum n rows [] s (c ∷ choice) w = chosen_none n (length rows) rows
-choices_sum n rows (sum ∷ sums) s [] w = chosen_none n (length rows) rows
-choices_sum n rows (sum ∷ sums) s (c ∷ choice) w =
-    let long = length_chosen_sum (length rows) choice (choices_of n rows sums s.1) (choices_long n rows sums s.1) in
-    added_choice n rows c s.0.choice (chosen_sum (length rows) choice (choices_of n rows sums s.1)) w (s.0.one_each ∙ sym long)
-    ∙ ap₂ (added_if c) s.0.sum (choices_sum n rows sums s.1 choice w)
+use Rattle.mb_encoder.proofs.Summing.{nth_symbol}
 
 -- ---- the row with one place set
 
@@ -55,15 +23,6 @@ unfolding chosen_sum unit
 chosen_unit n p [] w q = absurd (omega arith)
 chosen_unit n zero (row ∷ rows) w q = ap (row_sum row) (chosen_none n (length rows) rows) ∙ zeros_right n row w.0
 chosen_unit n (suc p) (row ∷ rows) w q = chosen_unit n p rows w.1 (omega arith)
-
-byte_unit : (b k p : ℕ) (us : List (List ℕ)) → length us ≡ k → p < k → byte_sum b (unit k p) us ≡ slice_index (slice_index_or us p []) b
-unfolding byte_sum unit
-byte_unit b zero p us e q = absurd (omega arith)
-byte_unit b (suc k) p [] e q = absurd (omega arith)
-byte_unit b (suc k) zero (u ∷ us) e q = ap (bit_xor (slice_index u b)) (byte_zeros b k us) ∙ xor_zero_r (slice_index u b)
-byte_unit b (suc k) (suc p) (u ∷ us) e q =
-    let e2 : length us ≡ k = omega arith in
-    let q2 : p < k = omega arith in byte_unit b k p us e2 q2
 
 nothing_zeros : (n : ℕ) (choice : List Bool) → length choice ≡ n → IsNothing choice → choice ≡ zeros n
 unfolding zeros

@@ -1,4 +1,4 @@
-pub mod Spanning
+pub mod Dependent
 pub mod Offering
 pub mod OneCode
 pub mod Lifting

@@ -8,46 +8,14 @@ use Rattle.mb_linear.specs.Span.{IsDetermined}
 use Rattle.mb_linear.proofs.RowLemmas.{length_chosen_sum, value_zeros}
 use Rattle.mb_linear.proofs.Deciding.{determined_sums}
 use Rattle.mb_elim.specs.Values.{byte_sum}
+use Rattle.mb_elim.proofs.Replaying.{byte_linear, byte_zeros}
 
--- ---- sums of bytes are linear in their row
-
-xor_swap : (u a b : ℕ) → bit_xor u (bit_xor a b) ≡ bit_xor a (bit_xor u b)
-xor_swap u a b = sym (xor_assoc u a b) ∙ ap (λ (x : ℕ). bit_xor x b) (xor_comm u a) ∙ xor_assoc a u b
-
-xor_twice : (u a b : ℕ) → bit_xor a b ≡ bit_xor (bit_xor u a) (bit_xor u b)
-xor_twice u a b = sym (
-    xor_assoc u a (bit_xor u b) ∙ ap (bit_xor u) (xor_swap a u b) ∙ sym (xor_assoc u u (bit_xor a b))
-    ∙ ap (λ (x : ℕ). bit_xor x (bit_xor a b)) (xor_self u) ∙ xor_comm 0 (bit_xor a b) ∙ xor_zero_r (bit_xor a b)
-    )
-
-pub byte_linear : (b : ℕ) (us : List (List ℕ)) (x y : List Bool) → length x ≡ length y → byte_sum b (row_sum x y) us ≡ bit_xor (byte_sum b x us) (byte_sum b y us)
-unfolding byte_sum row_sum
-byte_linear b us [] [] e = sym (xor_zero_r 0)
-byte_linear b us [] (d ∷ y) e = absurd (omega arith)
-byte_linear b us (c ∷ x) [] e = absurd (omega arith)
-byte_linear b [] (c ∷ x) (d ∷ y) e = sym (xor_zero_r 0)
-byte_linear b (u ∷ us) (false ∷ x) (false ∷ y) e = let e2 : length x ≡ length y = omega arith in byte_linear b us x y e2
-byte_linear b (u ∷ us) (true ∷ x) (false ∷ y) e =
-    let e2 : length x ≡ length y = omega arith in
-    ap (bit_xor (slice_index u b)) (byte_linear b us x y e2) ∙ sym (xor_assoc (slice_index u b) (byte_sum b x us) (byte_sum b y us))
-byte_linear b (u ∷ us) (false ∷ x) (true ∷ y) e =
-    let e2 : length x ≡ length y = omega arith in
-    ap (bit_xor (slice_index u b)) (byte_linear b us x y e2) ∙ xor_swap (slice_index u b) (byte_sum b x us) (byte_sum b y us)
-byte_linear b (u ∷ us) (true ∷ x) (true ∷ y) e =
-    let e2 : length x ≡ length y = omega arith in byte_linear b us x y e2 ∙ xor_twice (slice_index u b) (byte_sum b x us) (byte_sum b y us)
-
-pub byte_zeros : (b n : ℕ) (us : List (List ℕ)) → byte_sum b (zeros n) us ≡ 0
-unfolding byte_sum zeros
-byte_zeros b zero us = refl
-byte_zeros b (suc n) [] = refl
-byte_zeros b (suc n) (u ∷ us) = byte_zeros b n us
+-- ---- what bits determine, bytes do
 
 byte_none : (b : ℕ) (row : List Bool) → byte_sum b row [] ≡ 0
 unfolding byte_sum
 byte_none b [] = refl
 byte_none b (c ∷ row) = refl
-
--- ---- what bits determine, bytes do
 
 byte_added : (b n : ℕ) (c : Bool) (row sum : List Bool) (us vs : List (List ℕ)) → length row ≡ length sum → byte_sum b row us ≡ byte_sum b row vs
     → byte_sum b sum us ≡ byte_sum b sum vs → byte_sum b (added_if c row sum) us ≡ byte_sum b (added_if c row sum) vs

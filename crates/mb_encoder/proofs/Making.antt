@@ -3,7 +3,7 @@ use Rattle.std.proofs.Common.{◌≡◌, ℕ, ◌+◌, ◌*◌, ◌^◌, ◌<◌
 use Rattle.mb_elim.specs.Offered.{Offered}
 use Rattle.mb_elim.specs.Kept.{firsts}
 use Rattle.mb_elim.specs.Values.{byte_at, byte_sum, AreSums, AreUnknowns}
-use Rattle.mb_elim.proofs.Snoc.{length_firsts, firsts_same}
+use Rattle.mb_elim.proofs.Snoc.{length_firsts, firsts_same, nth_firsts}
 use Rattle.mb_elim.proofs.RowsInWords.{row_within}
 use Rattle.mb_rows.specs.Code.{RaptorCode, l_of}
 use Rattle.mb_rows.specs.Walk.{lt_row}
@@ -14,7 +14,7 @@ use Rattle.mb_encoder.specs.Encoder.{Encoder}
 use Rattle.mb_encoder.specs.Kept.{IsEliminated, IsKept, given_at, encoder_of}
 use Rattle.mb_encoder.proofs.Offering.{length_folded, folded_are_rows}
 use Rattle.mb_encoder.proofs.Lifting.{byte_same}
-use Rattle.mb_encoder.proofs.Summing.{nth_firsts, nth_symbol}
+use Rattle.mb_encoder.proofs.Summing.{nth_symbol}
 use Rattle.mb_encoder.proofs.Inverse.{HasUnknowns, full_unknowns}
 use Rattle.mb_encoder.proofs.Solving.{folded_bytes}
 

@@ -3,6 +3,7 @@ use Rattle.std.proofs.Common.{◌≡◌, ℕ, zero, suc, ◌<◌, Bool, List, []
 use Rattle.mb_linear.specs.Row.{zeros, AreRows}
 use Rattle.mb_linear.specs.Span.{IsSumOf, Solves, AreIndependent}
 use Rattle.mb_linear.proofs.Independence.{full_determines}
+use Rattle.mb_linear.proofs.Spanning.{spanned_zeros}
 use Rattle.mb_elim.specs.Offered.{Offered}
 use Rattle.mb_elim.specs.Kept.{firsts}
 use Rattle.mb_elim.proofs.Snoc.{length_firsts, all_firsts}
@@ -13,7 +14,7 @@ use Rattle.mb_rows.proofs.PlaceLemmas.{length_set}
 use Rattle.mb_rows.proofs.DeterminedLemmas.{rows_determine_block}
 use Rattle.mb_encoder.specs.Usable.{source_esis}
 use Rattle.mb_encoder.specs.Kept.{IsEliminated}
-use Rattle.mb_encoder.proofs.Spanning.{spanned_zeros, dependent_rows, map_firsts}
+use Rattle.mb_encoder.proofs.Dependent.{dependent_rows, map_firsts}
 
 pub length_folded : (c : RaptorCode) (esi : ℕ) → length (folded_row c esi) ≡ c.row.k
 length_folded c esi = length_set c.row.k (in_folded c esi)

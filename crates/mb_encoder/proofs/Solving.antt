@@ -6,10 +6,9 @@ use Rattle.mb_linear.specs.Row.{plus, row_sum, zeros, value_over, AreRows}
 use Rattle.mb_linear.specs.Span.{Solves, IsDetermined}
 use Rattle.mb_linear.proofs.RowLemmas.{length_zeros, length_row_sum, plus_self, value_sum, zero_values}
 use Rattle.mb_bits.specs.BitRow.{row_of}
-use Rattle.mb_bits.proofs.BitLemmas.{Order, Order.Below, Order.From, order}
 use Rattle.mb_elim.specs.Kept.{firsts}
 use Rattle.mb_elim.specs.Values.{byte_at, byte_sum}
-use Rattle.mb_elim.proofs.Snoc.{length_firsts, all_before, all_last, all_firsts}
+use Rattle.mb_elim.proofs.Snoc.{length_firsts, nth_firsts, all_firsts, all_at}
 use Rattle.mb_rows.specs.Code.{RaptorCode, IsCode, l_of}
 use Rattle.mb_rows.specs.Walk.{in_lt, lt_row}
 use Rattle.mb_rows.specs.Constraints.{in_constraint, constraint_row}
@@ -23,20 +22,10 @@ use Rattle.mb_encoder.specs.Solutions.{Pair, SolvePairs, pairs_from, source_pair
 use Rattle.mb_encoder.specs.Usable.{source_esis}
 use Rattle.mb_encoder.specs.Kept.{IsKept, given_at}
 use Rattle.mb_encoder.proofs.Offering.{length_folded}
-use Rattle.mb_encoder.proofs.Lifting.{byte_linear, byte_padded, value_padded, xor_equal, determined_agree, determined_zero}
-use Rattle.mb_encoder.proofs.Summing.{nth_firsts}
+use Rattle.mb_elim.proofs.Replaying.{byte_linear}
+use Rattle.mb_encoder.proofs.Lifting.{byte_padded, value_padded, xor_equal, determined_agree, determined_zero}
 
--- ---- all of the first values
-
-all_at_by : {A : Type 0} → (P : A → Type 0) (f : ℕ → A) (n i : ℕ) → (i < n → P (f i)) → P (f n) → i < suc n → Order i n → P (f i)
-all_at_by P f n i a l p (Below q) = a q
-all_at_by P f n i a l p (From q) =
-    let same : n ≡ i = omega arith in subst (λ (m : ℕ). P (f m)) same l
-
-all_at : {A : Type 0} → (P : A → Type 0) (f : ℕ → A) (n : ℕ) → AllByRecursion P (firsts f n) → (i : ℕ) → i < n → P (f i)
-unfolding firsts
-all_at P f zero a i p = absurd (omega arith)
-all_at P f (suc n) a i p = all_at_by P f n i (all_at P f n (all_before P (firsts f n) (f n) a) i) (all_last P (firsts f n) (f n) a) p (order i n)
+-- ---- all of two lists
 
 all_join : {A : Type 0} → (P : A → Type 0) (xs ys : List A) → AllByRecursion P xs → AllByRecursion P ys → AllByRecursion P (xs ++ ys)
 all_join P [] ys a b = b

@@ -7,42 +7,16 @@ use Rattle.std.proofs.lemmas.Nat.Bits.{bit_at-zero}
 use Rattle.mb_linear.specs.Row.{zeros}
 use Rattle.std.proofs.lemmas.Bool.{cases_lt, eq-eqb, ne_eqb}
 use Rattle.mb_bits.specs.BitRow.{bit_in, row_from, row_of}
-use Rattle.mb_bits.proofs.BitLemmas.{Order, Order.Below, Order.From, order}
 use Rattle.mb_elim.specs.Kept.{firsts}
 use Rattle.mb_elim.specs.Values.{byte_at, byte_sum}
-use Rattle.mb_elim.proofs.Snoc.{length_firsts, firsts_same}
+use Rattle.mb_elim.proofs.Snoc.{length_firsts, firsts_same, nth_firsts}
 use Rattle.mb_elim.proofs.RowsInWords.{length_row_from, row_from_snoc, row_within}
 use Rattle.mb_rows.specs.Code.{RaptorCode, l_of}
-use Rattle.mb_rows.specs.Places.{row_from_set}
 use Rattle.mb_rows.specs.Constraints.{in_constraint, constraint_row}
 use Rattle.mb_rows.proofs.CodeLemmas.{added_in, own_outside}
+use Rattle.mb_rows.proofs.ValueLemmas.{place_of_set}
 use Rattle.mb_encoder.specs.Symbols.{symbol_of, symbols_of}
 use Rattle.mb_encoder.proofs.Lifting.{chosen, byte_snoc, byte_more, byte_past, byte_padded}
-
--- ---- the n-th of the first values
-
-nth_before : {A : Type 0} → (xs : List A) (x d : A) (i : ℕ) → i < length xs → slice_index_or (xs ++ x ∷ []) i d ≡ slice_index_or xs i d
-nth_before [] x d i p = absurd (omega arith)
-nth_before (y ∷ xs) x d zero p = refl
-nth_before (y ∷ xs) x d (suc i) p = let p2 : i < length xs = omega arith in nth_before xs x d i p2
-
-nth_last : {A : Type 0} → (xs : List A) (x d : A) (i : ℕ) → length xs ≡ i → slice_index_or (xs ++ x ∷ []) i d ≡ x
-nth_last [] x d zero e = refl
-nth_last [] x d (suc i) e = absurd (omega arith)
-nth_last (y ∷ xs) x d zero e = absurd (omega arith)
-nth_last (y ∷ xs) x d (suc i) e = let e2 : length xs ≡ i = omega arith in nth_last xs x d i e2
-
-nth_by : {A : Type 0} → (f : ℕ → A) (d : A) (n i : ℕ) → i < suc n → (i < n → slice_index_or (firsts f n) i d ≡ f i) → Order i n
-    → slice_index_or (firsts f n ++ f n ∷ []) i d ≡ f i
-nth_by f d n i p ih (Below q) =
-    let long = length_firsts f n in nth_before (firsts f n) (f n) d i (omega arith) ∙ ih q
-nth_by f d n i p ih (From q) =
-    let same : n ≡ i = omega arith in nth_last (firsts f n) (f n) d i (length_firsts f n ∙ same) ∙ ap f same
-
-pub nth_firsts : {A : Type 0} → (f : ℕ → A) (d : A) (n i : ℕ) → i < n → slice_index_or (firsts f n) i d ≡ f i
-unfolding firsts
-nth_firsts f d zero i p = absurd (omega arith)
-nth_firsts f d (suc n) i p = nth_by f d n i p (nth_firsts f d n i) (order i n)
 
 pub nth_symbol : (t count n b : ℕ) (block : List ℕ) → n < count → b < t → slice_index (slice_index_or (symbols_of t count block) n []) b ≡ byte_at t block n b
 nth_symbol t count n b block p q = ap (λ (s : List ℕ). slice_index s b) (nth_firsts (symbol_of t block) [] count n p) ∙ nth_firsts (byte_at t block n) 0 t b q
@@ -138,14 +112,8 @@ symbols_snoc : (t count : ℕ) (xs : List ℕ) → symbols_of t (suc count) xs �
 unfolding firsts
 symbols_snoc t count xs = refl
 
-place_from_set : (n at i j : ℕ) (f : ℕ → Bool) → j ≡ at + i → i < n → slice_index_or (row_from_set n at f) i false ≡ f j
-unfolding row_from_set
-place_from_set zero at i j f e q = absurd (omega arith)
-place_from_set (suc n) at zero j f e q = let same : at ≡ j = omega arith in ap f same
-place_from_set (suc n) at (suc i) j f e q = place_from_set n (suc at) i j f (omega arith) (omega arith)
-
 place_of_constraint : (c : RaptorCode) (i p : ℕ) → p < l_of c → slice_index_or (constraint_row c i) p false ≡ in_constraint c i p
-place_of_constraint c i p q = place_from_set (l_of c) 0 p p (in_constraint c i) (omega arith) q
+place_of_constraint c i p q = place_of_set (l_of c) p (in_constraint c i) q
 
 own_place : (c : RaptorCode) (i p : ℕ) → p ≡ c.row.k + i → p < l_of c → slice_index_or (constraint_row c i) p false ≡ true
 own_place c i p e q = place_of_constraint c i p q ∙ ap (λ (b : Bool). b || added_in c i p) (eq-eqb p (c.row.k + i) e)

@@ -183,16 +183,16 @@ full_determines n rows row w i l e = full_by n rows row w i l e (decided n rows 
 -- ---- sums of rows
 
 -- the choices of sums
-choices_of : (n : ℕ) (rows sums : List (List Bool)) → AllByRecursion (IsSumOf n rows) sums → List (List Bool)
+pub choices_of : (n : ℕ) (rows sums : List (List Bool)) → AllByRecursion (IsSumOf n rows) sums → List (List Bool)
 choices_of n rows [] s = []
 choices_of n rows (sum ∷ sums) s = s.0.choice ∷ choices_of n rows sums s.1
 
-choices_long : (n : ℕ) (rows sums : List (List Bool)) (s : AllByRecursion (IsSumOf n rows) sums) → AreRows (length rows) (choices_of n rows sums s)
+pub choices_long : (n : ℕ) (rows sums : List (List Bool)) (s : AllByRecursion (IsSumOf n rows) sums) → AreRows (length rows) (choices_of n rows sums s)
 unfolding choices_of
 choices_long n rows [] s = tt
 choices_long n rows (sum ∷ sums) s = (s.0.one_each, choices_long n rows sums s.1)
 
-choices_many : (n : ℕ) (rows sums : List (List Bool)) (s : AllByRecursion (IsSumOf n rows) sums) → length (choices_of n rows sums s) ≡ length sums
+pub choices_many : (n : ℕ) (rows sums : List (List Bool)) (s : AllByRecursion (IsSumOf n rows) sums) → length (choices_of n rows sums s) ≡ length sums
 unfolding choices_of
 choices_many n rows [] s = refl
 choices_many n rows (sum ∷ sums) s = ap suc (choices_many n rows sums s.1)
@@ -202,7 +202,7 @@ added_choice : (n : ℕ) (rows : List (List Bool)) (c : Bool) (a b : List Bool) 
 added_choice n rows false a b w e = refl
 added_choice n rows true a b w e = chosen_plus n a b rows w e
 
-choices_sum : (n : ℕ) (rows sums : List (List Bool)) (s : AllByRecursion (IsSumOf n rows) sums) (choice : List Bool) → AreRows n rows
+pub choices_sum : (n : ℕ) (rows sums : List (List Bool)) (s : AllByRecursion (IsSumOf n rows) sums) (choice : List Bool) → AreRows n rows
     → chosen_sum n (chosen_sum (length rows) choice (choices_of n rows sums s)) rows ≡ chosen_sum n choice sums
 unfolding choices_of chosen_sum
 choices_sum n rows [] s [] w = chosen_none n (length rows) rows

@@ -4,3 +4,4 @@ pub mod Elimination
 pub mod Deciding
 pub mod Independence
 pub mod EchelonLemmas
+pub mod Spanning

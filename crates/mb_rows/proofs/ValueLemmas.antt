@@ -240,7 +240,7 @@ place_from_set zero at i j f e q = absurd (omega arith)
 place_from_set (suc n) at zero j f e q = let same : at ≡ j = omega arith in ap f same
 place_from_set (suc n) at (suc i) j f e q = place_from_set n (suc at) i j f (omega arith) (omega arith)
 
-place_of_set : (n i : ℕ) (f : ℕ → Bool) → i < n → at_place (row_of_set n f) i ≡ f i
+pub place_of_set : (n i : ℕ) (f : ℕ → Bool) → i < n → at_place (row_of_set n f) i ≡ f i
 place_of_set n i f q = place_from_set n 0 i i f (omega arith) q
 
 front_from_set : (k n at : ℕ) (f : ℕ → Bool) → k ≤ n → take k (row_from_set n at f) ≡ row_from_set k at f
