@@ -62,9 +62,12 @@ hear_pairs w kept pairs = fold (hear w) kept pairs
 abbrev pub kept_in : ℕ → Life → List Pair
 kept_in sbn life = slice_index_or life.kept sbn []
 
+-- what is kept of all blocks of a description once these symbols were heard in one
+abbrev pub hear_in_kept : Description → ℕ → List Pair → List (List Pair) → List (List Pair)
+hear_in_kept d sbn pairs kept = slice_set kept sbn (hear_pairs (way_in d sbn) (slice_index_or kept sbn []) pairs)
+
 abbrev pub hear_in_block : ℕ → List Pair → Life → Life
-hear_in_block sbn pairs life =
-    record life { kept = slice_set life.kept sbn (hear_pairs (way_in life.desc sbn) (kept_in sbn life) pairs) }
+hear_in_block sbn pairs life = record life { kept = hear_in_kept life.desc sbn pairs life.kept }
 
 -- ---- the file
 
