@@ -20,6 +20,12 @@ unfolding firsts
 firsts_same f g zero e = refl
 firsts_same f g (suc n) e = ap₂ (λ (xs : List _) (x : _). xs ++ x ∷ []) (firsts_same f g n (λ i p. e i (omega arith))) (e n (omega arith))
 
+-- the first one stands before the others
+pub firsts_front : {A : Type 0} → (f : ℕ → A) (n : ℕ) → firsts f (suc n) ≡ f 0 ∷ firsts (λ i. f (suc i)) n
+unfolding firsts
+firsts_front f zero = refl
+firsts_front f (suc n) = ap (λ (xs : List _). xs ++ f (suc n) ∷ []) (firsts_front f n)
+
 -- ---- the n-th of the first values
 
 nth_before : {A : Type 0} → (xs : List A) (x d : A) (i : ℕ) → i < length xs → slice_index_or (xs ++ x ∷ []) i d ≡ slice_index_or xs i d

@@ -1,8 +1,7 @@
 -- As many independent rows as places have unknowns that sum to any bytes.
-use Rattle.std.proofs.Common.{◌≡◌, ℕ, zero, suc, ◌<◌, Bool, true, false, List, [], ◌∷◌, length, map, slice_index, slice_index_or, bit_xor, refl, ap, ap₂, sym, subst, ◌∙◌, arith}
+use Rattle.std.proofs.Common.{◌≡◌, ℕ, zero, suc, ◌<◌, Bool, true, false, List, [], ◌∷◌, length, map, slice_index_or, bit_xor, refl, ap, ap₂, sym, subst, ◌∙◌, arith}
 use Rattle.std.specs.List.{AllByRecursion}
-use Rattle.std.specs.Int.Bits.{xor_zero_r}
-use Rattle.mb_linear.specs.Row.{row_sum, zeros, added_if, chosen_sum, AreRows}
+use Rattle.mb_linear.specs.Row.{row_sum, zeros, chosen_sum, AreRows}
 use Rattle.mb_linear.specs.Span.{IsSumOf, IsNothing, AreIndependent}
 use Rattle.mb_linear.proofs.RowLemmas.{length_row_sum, length_chosen_sum, sum_self, zeros_right, chosen_none, chosen_plus}
 use Rattle.mb_linear.proofs.Independence.{full_determines, choices_of, choices_long, choices_many, choices_sum}
@@ -44,10 +43,10 @@ one_choice n m rows a b w free many p q e =
 -- ---- the unknowns
 
 -- the bytes that a choice of symbols sums to
-abbrev made : ℕ → List (List ℕ) → List Bool → List ℕ
+abbrev pub made : ℕ → List (List ℕ) → List Bool → List ℕ
 made t sources choice = firsts (λ b. byte_sum b choice sources) t
 
-byte_made : (t n b : ℕ) (row : List Bool) (choices : List (List Bool)) (sources : List (List ℕ)) → AreRows n choices → b < t
+pub byte_made : (t n b : ℕ) (row : List Bool) (choices : List (List Bool)) (sources : List (List ℕ)) → AreRows n choices → b < t
     → byte_sum b row (map (made t sources) choices) ≡ byte_sum b (chosen_sum n row choices) sources
 unfolding byte_sum chosen_sum
 byte_made t n b [] choices sources w p = sym (byte_zeros b n sources)

@@ -3,7 +3,7 @@ use Rattle.std.proofs.Common.{◌≡◌, ℕ, zero, suc, ◌<◌, ◌≤◌, Boo
 use Rattle.std.specs.List.{AllByRecursion}
 use Rattle.std.specs.Int.Bits.{xor_assoc, xor_self, xor_zero_r}
 use Rattle.std.proofs.lemmas.Nat.{xor_comm}
-use Rattle.mb_linear.specs.Row.{plus, row_sum, zeros, added_if, chosen_sum, value_over, AreRows}
+use Rattle.mb_linear.specs.Row.{plus, zeros, added_if, chosen_sum, value_over, AreRows}
 use Rattle.mb_linear.specs.Span.{IsDetermined}
 use Rattle.mb_linear.proofs.RowLemmas.{length_chosen_sum, value_zeros}
 use Rattle.mb_linear.proofs.Deciding.{determined_sums}

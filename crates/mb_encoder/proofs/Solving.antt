@@ -1,5 +1,5 @@
 -- Intermediate symbols by their folded rows, and that the source symbols leave no choice of them.
-use Rattle.std.proofs.Common.{◌≡◌, ℕ, zero, suc, ◌+◌, ◌*◌, ◌/◌, ◌<◌, ◌≤◌, ◌^◌, Bool, false, List, [], ◌∷◌, ◌++◌, length, take, slice_index, slice_index_or, ap, ap₂, sym, subst, ◌∙◌, arith, length-append}
+use Rattle.std.proofs.Common.{◌≡◌, ℕ, zero, suc, ◌+◌, ◌*◌, ◌/◌, ◌<◌, ◌≤◌, ◌^◌, Bool, false, List, [], ◌∷◌, ◌++◌, length, map, take, slice_index, slice_index_or, refl, ap, ap₂, sym, subst, ◌∙◌, arith, length-append}
 use Rattle.std.specs.List.{AllByRecursion}
 use Rattle.std.proofs.lemmas.Grind.{same_number_lists}
 use Rattle.mb_linear.specs.Row.{plus, row_sum, zeros, value_over, AreRows}
@@ -8,7 +8,7 @@ use Rattle.mb_linear.proofs.RowLemmas.{length_zeros, length_row_sum, plus_self, 
 use Rattle.mb_bits.specs.BitRow.{row_of}
 use Rattle.mb_elim.specs.Kept.{firsts}
 use Rattle.mb_elim.specs.Values.{byte_at, byte_sum}
-use Rattle.mb_elim.proofs.Snoc.{length_firsts, nth_firsts, all_firsts, all_at}
+use Rattle.mb_elim.proofs.Snoc.{length_firsts, firsts_same, firsts_front, nth_firsts, all_firsts, all_at}
 use Rattle.mb_rows.specs.Code.{RaptorCode, IsCode, l_of}
 use Rattle.mb_rows.specs.Walk.{in_lt, lt_row}
 use Rattle.mb_rows.specs.Constraints.{in_constraint, constraint_row}
@@ -18,7 +18,7 @@ use Rattle.mb_rows.proofs.CodeLemmas.{half_few}
 use Rattle.mb_rows.proofs.PlaceLemmas.{length_set}
 use Rattle.mb_rows.proofs.ValueLemmas.{same_values}
 use Rattle.mb_encoder.specs.Symbols.{IsSymbol, SumTo, symbol_of, symbols_of}
-use Rattle.mb_encoder.specs.Solutions.{Pair, SolvePairs, pairs_from, source_pairs, IsSymbolAt}
+use Rattle.mb_encoder.specs.Solutions.{Pair, esis, SolvePairs, pairs_from, source_pairs, IsSymbolAt}
 use Rattle.mb_encoder.specs.Usable.{source_esis}
 use Rattle.mb_encoder.specs.Kept.{IsKept, given_at}
 use Rattle.mb_encoder.proofs.Offering.{length_folded}
@@ -87,27 +87,69 @@ folded_bytes c esi b us meet =
     (sym (byte_linear b us (lt_row c esi) (padded_row c esi) (length_lt c esi ∙ sym (length_padded c esi))) ∙ none)
     ∙ byte_both c esi b us
 
--- ---- two solutions of the source symbols give the same symbols
+-- ---- two solutions of pairs that determine the block give the same symbols
 
-equations : RaptorCode → List (List Bool)
-equations c = constraints c ++ firsts (lt_row c) c.row.k
+lt_rows : RaptorCode → List ℕ → List (List Bool)
+lt_rows c es = map (lt_row c) es
 
-equations_are_rows : (c : RaptorCode) → AreRows (l_of c) (equations c)
+lt_are_rows : (c : RaptorCode) (es : List ℕ) → AreRows (l_of c) (lt_rows c es)
+unfolding lt_rows
+lt_are_rows c [] = tt
+lt_are_rows c (e ∷ es) = (length_lt c e, lt_are_rows c es)
+
+equations : RaptorCode → List ℕ → List (List Bool)
+equations c es = constraints c ++ lt_rows c es
+
+equations_are_rows : (c : RaptorCode) (es : List ℕ) → AreRows (l_of c) (equations c es)
 unfolding equations
-equations_are_rows c = all_join (λ row. length row ≡ l_of c) (constraints c) (firsts (lt_row c) c.row.k) (constraints_are_rows c)
-    (all_firsts (λ row. length row ≡ l_of c) (lt_row c) c.row.k (λ i p. length_lt c i))
+equations_are_rows c es = all_join (λ row. length row ≡ l_of c) (constraints c) (lt_rows c es) (constraints_are_rows c) (lt_are_rows c es)
 
-zero_at : (c : RaptorCode) (values : List Bool) → Solves (l_of c) (equations c) values → AreZeroAt c (source_esis c.row.k) values
+zero_each : (c : RaptorCode) (es : List ℕ) (values : List Bool) → AllByRecursion (λ row. value_over row values ≡ false) (lt_rows c es)
+    → AllByRecursion (λ esi. value_over (lt_row c esi) values ≡ false) es
+unfolding lt_rows
+zero_each c [] values a = tt
+zero_each c (e ∷ es) values a = (a.0, zero_each c es values a.1)
+
+zero_at : (c : RaptorCode) (es : List ℕ) (values : List Bool) → Solves (l_of c) (equations c es) values → AreZeroAt c es values
 unfolding equations
-zero_at c values s =
+zero_at c es values s =
     let P : List Bool → Type 0 = λ row. value_over row values ≡ false in record {
-      meets = meets_all c values s.places (all_front P (constraints c) (firsts (lt_row c) c.row.k) s.each);
-      each = all_firsts (λ esi. value_over (lt_row c esi) values ≡ false) (λ esi. esi) c.row.k
-          (λ i p. all_at P (lt_row c) c.row.k (all_behind P (constraints c) (firsts (lt_row c) c.row.k) s.each) i p);
+      meets = meets_all c values s.places (all_front P (constraints c) (lt_rows c es) s.each);
+      each = zero_each c es values (all_behind P (constraints c) (lt_rows c es) s.each);
     }
 
-each_determined : (c : RaptorCode) (esi : ℕ) → DetermineBlock c (source_esis c.row.k) → IsDetermined (l_of c) (equations c) (lt_row c esi)
-each_determined c esi d values s = ap (value_over (lt_row c esi)) (d values (zero_at c values s)) ∙ zero_values (l_of c) (lt_row c esi)
+each_determined : (c : RaptorCode) (es : List ℕ) (esi : ℕ) → DetermineBlock c es → IsDetermined (l_of c) (equations c es) (lt_row c esi)
+each_determined c es esi d values s = ap (value_over (lt_row c esi)) (d values (zero_at c es values s)) ∙ zero_values (l_of c) (lt_row c esi)
+
+agree_each : (c : RaptorCode) (t b : ℕ) (pairs : List Pair) (us vs : List (List ℕ)) → AllByRecursion (λ (p : Pair). SumTo t (lt_row c p.esi) us p.symbol) pairs
+    → AllByRecursion (λ (p : Pair). SumTo t (lt_row c p.esi) vs p.symbol) pairs → b < t
+    → AllByRecursion (λ row. byte_sum b row us ≡ byte_sum b row vs) (lt_rows c (esis pairs))
+unfolding lt_rows
+agree_each c t b [] us vs x y q = tt
+agree_each c t b (p ∷ pairs) us vs x y q = (x.0 b q ∙ sym (y.0 b q), agree_each c t b pairs us vs x.1 y.1 q)
+
+pub solutions_agree : (c : RaptorCode) (t esi b : ℕ) (pairs : List Pair) (us vs : List (List ℕ)) → DetermineBlock c (esis pairs) → SolvePairs c t pairs us → SolvePairs c t pairs vs
+    → b < t → byte_sum b (lt_row c esi) us ≡ byte_sum b (lt_row c esi) vs
+unfolding equations
+solutions_agree c t esi b pairs us vs d x y q =
+    let P : List Bool → Type 0 = λ row. byte_sum b row us ≡ byte_sum b row vs in
+    determined_agree b (l_of c) (equations c (esis pairs)) (lt_row c esi) us vs (equations_are_rows c (esis pairs)) (length_lt c esi) (each_determined c (esis pairs) esi d)
+    (all_join P (constraints c) (lt_rows c (esis pairs))
+    (all_firsts P (constraint_row c) (c.row.s + c.h) (λ i p. x.meet i p b q ∙ sym (y.meet i p b q)))
+    (agree_each c t b pairs us vs x.each_pair y.each_pair q))
+
+-- ---- the source symbols as pairs
+
+esis_from : (at : ℕ) (sources : List (List ℕ)) → esis (pairs_from at sources) ≡ firsts (λ i. at + i) (length sources)
+unfolding pairs_from firsts
+esis_from at [] = refl
+esis_from at (source ∷ sources) =
+    let here : at ≡ at + 0 = omega arith in
+    ap₂ (λ (e : ℕ) (es : List ℕ). e ∷ es) here (esis_from (suc at) sources ∙ firsts_same (λ i. suc at + i) (λ i. at + suc i) (length sources) (λ i p. omega arith))
+    ∙ sym (firsts_front (λ i. at + i) (length sources))
+
+pub source_esis_are : (k : ℕ) (sources : List (List ℕ)) → length sources ≡ k → esis (source_pairs sources) ≡ source_esis k
+source_esis_are k sources e = esis_from 0 sources ∙ firsts_same (λ i. 0 + i) (λ i. i) (length sources) (λ i p. omega arith) ∙ ap (firsts (λ i. i)) e
 
 pair_from : (c : RaptorCode) (t at n j : ℕ) (us sources : List (List ℕ)) → AllByRecursion (λ (p : Pair). SumTo t (lt_row c p.esi) us p.symbol) (pairs_from at sources)
     → j ≡ at + n → n < length sources → SumTo t (lt_row c j) us (slice_index_or sources n [])
@@ -120,16 +162,6 @@ pair_from c t at (suc n) j us (source ∷ sources) a e p = pair_from c t (suc at
 pub pair_at : (c : RaptorCode) (t n : ℕ) (us sources : List (List ℕ)) → SolvePairs c t (source_pairs sources) us → n < length sources
     → SumTo t (lt_row c n) us (slice_index_or sources n [])
 pair_at c t n us sources s p = pair_from c t 0 n n us sources s.each_pair (omega arith) p
-
-pub solutions_agree : (c : RaptorCode) (t esi b : ℕ) (us vs sources : List (List ℕ)) → DetermineBlock c (source_esis c.row.k) → length sources ≡ c.row.k
-    → SolvePairs c t (source_pairs sources) us → SolvePairs c t (source_pairs sources) vs → b < t → byte_sum b (lt_row c esi) us ≡ byte_sum b (lt_row c esi) vs
-unfolding equations
-solutions_agree c t esi b us vs sources d e x y q =
-    let P : List Bool → Type 0 = λ row. byte_sum b row us ≡ byte_sum b row vs in
-    determined_agree b (l_of c) (equations c) (lt_row c esi) us vs (equations_are_rows c) (length_lt c esi) (each_determined c esi d)
-    (all_join P (constraints c) (firsts (lt_row c) c.row.k)
-    (all_firsts P (constraint_row c) (c.row.s + c.h) (λ i p. x.meet i p b q ∙ sym (y.meet i p b q)))
-    (all_firsts P (lt_row c) c.row.k (λ i p. pair_at c t i us sources x (omega arith) b q ∙ sym (pair_at c t i vs sources y (omega arith) b q))))
 
 -- ---- the kept symbols are a solution
 
@@ -171,11 +203,13 @@ pub kept_symbol : (c : RaptorCode) (t esi : ℕ) (items out : List ℕ) → IsKe
 kept_symbol c t esi items out is long small sum =
     let sources = firsts (given_at c t items) c.row.k in
     let us = symbols_of t (l_of c) items in
+    let determine : DetermineBlock c (esis (source_pairs sources)) =
+    subst (DetermineBlock c) (sym (source_esis_are c.row.k sources (length_firsts (given_at c t items) c.row.k))) is.determine in
     let solve = kept_solve c t items is in record {
       is_symbol = record { long = long; bytes = λ b q. small b };
       some = us;
       solve = solve;
-      each = λ vs s b q. solutions_agree c t esi b vs us sources is.determine (length_firsts (given_at c t items) c.row.k) s solve q ∙ sym (sum b q);
+      each = λ vs s b q. solutions_agree c t esi b (source_pairs sources) vs us determine s solve q ∙ sym (sum b q);
     }
 
 pub kept_source : (c : RaptorCode) (t esi : ℕ) (items out : List ℕ) → length out ≡ t → esi < c.row.k

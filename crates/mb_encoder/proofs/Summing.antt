@@ -176,7 +176,7 @@ at_front [] ys j p = absurd (omega arith)
 at_front (x ∷ xs) ys zero p = refl
 at_front (x ∷ xs) ys (suc j) p = at_front xs ys j (omega arith)
 
-at_own : (xs ys zs : List ℕ) (n b j : ℕ) → length xs ≡ n → j ≡ n + b → b < length ys → slice_index (xs ++ (ys ++ zs)) j ≡ slice_index ys b
+pub at_own : (xs ys zs : List ℕ) (n b j : ℕ) → length xs ≡ n → j ≡ n + b → b < length ys → slice_index (xs ++ (ys ++ zs)) j ≡ slice_index ys b
 at_own [] ys zs n b j e f p =
     let same : j ≡ b = omega arith in ap (slice_index (ys ++ zs)) same ∙ at_front ys zs b p
 at_own (x ∷ xs) ys zs n b zero e f p = absurd (omega arith)

@@ -16,3 +16,4 @@ pub use fault::EncodeFault;
 pub use intermediate::Intermediate;
 pub use laws::symbols_are_one;
 pub use sizes::usable;
+pub use sums::put_sum;

@@ -32,7 +32,7 @@ fn add_places(symbols: &[u8], row: &[u64], first: usize, end: usize, out: &mut [
 
 /// Puts the sum of the symbols at the places that a row has set, of the first `count`. Most words of an LT row have
 /// no place set.
-pub(crate) fn put_sum(symbols: &[u8], row: &[u64], count: u16, out: &mut [u8])
+pub fn put_sum(symbols: &[u8], row: &[u64], count: u16, out: &mut [u8])
     requires row { count ≤ 64 * length row.now }
     requires symbols { length out.old * count ≤ length symbols.now }
     ensures sum { (b : ℕ) → b < length out.old → slice_index out.new b ≡ byte_sum b (row_of count row.now) (symbols_of (length out.old) count symbols.now) }

@@ -1,9 +1,9 @@
 -- Rows that zeros alone solve are those of which each row is a sum, and no fewer rows than places are.
-use Rattle.std.proofs.Common.{◌≡◌, ℕ, zero, suc, ◌≤◌, Bool, true, false, List, [], ◌∷◌, length, map, refl, ap, ap₂, sym, ◌∙◌, arith}
+use Rattle.std.proofs.Common.{◌≡◌, ℕ, zero, suc, ◌≤◌, Bool, true, false, ◌&&◌, List, [], ◌∷◌, length, map, refl, ap, ap₂, sym, ◌∙◌, arith}
 use Rattle.std.specs.List.{AllByRecursion}
-use Rattle.mb_linear.specs.Row.{zeros, row_sum, added_if, chosen_sum, value_over, AreRows}
+use Rattle.mb_linear.specs.Row.{plus, zeros, row_sum, added_if, chosen_sum, value_over, AreRows}
 use Rattle.mb_linear.specs.Span.{IsSumOf, Solves, IsNothing, AreIndependent}
-use Rattle.mb_linear.proofs.RowLemmas.{length_zeros, zeros_left, value_zeros, zero_values}
+use Rattle.mb_linear.proofs.RowLemmas.{length_zeros, length_chosen_sum, zeros_left, value_zeros, value_sum, zero_values}
 use Rattle.mb_linear.proofs.SpanLemmas.{sums_determined}
 use Rattle.mb_linear.proofs.Elimination.{padded, chosen_padded}
 use Rattle.mb_linear.proofs.Deciding.{Decided, Decided.Sum, Decided.Differs, decided}
@@ -25,6 +25,33 @@ zero_for_all (suc n) (v ∷ values) e f =
     let e2 : length values ≡ n = omega arith in
     ap₂ (λ (b : Bool) (bs : List Bool). b ∷ bs) (later_zeros n v v values (f (true ∷ zeros n) (ap suc (length_zeros n))))
     (zero_for_all n values e2 (λ row p. f (false ∷ row) (ap suc p)))
+
+bits_swap : (x y : Bool) → (x && y) ≡ (y && x)
+bits_swap true true = refl
+bits_swap true false = refl
+bits_swap false true = refl
+bits_swap false false = refl
+
+value_swap : (row values : List Bool) → value_over row values ≡ value_over values row
+unfolding value_over
+value_swap [] [] = refl
+value_swap [] (v ∷ values) = refl
+value_swap (b ∷ row) [] = refl
+value_swap (b ∷ row) (v ∷ values) = ap₂ plus (bits_swap b v) (value_swap row values)
+
+-- a row that sums all values to zero has no place set
+pub zero_row : (n : ℕ) (row : List Bool) → length row ≡ n → ((values : List Bool) → length values ≡ n → value_over row values ≡ false) → row ≡ zeros n
+zero_row n row e f = zero_for_all n row e (λ values p. value_swap values row ∙ f values p)
+
+-- the sum of the chosen rows sums values to what the choice does of the rows' own sums
+pub value_chosen : (n : ℕ) (choice : List Bool) (rows : List (List Bool)) (values : List Bool) → AreRows n rows
+    → value_over (chosen_sum n choice rows) values ≡ value_over choice (map (λ (r : List Bool). value_over r values) rows)
+unfolding chosen_sum value_over
+value_chosen n [] rows values w = value_zeros n values
+value_chosen n (c ∷ choice) [] values w = value_zeros n values
+value_chosen n (true ∷ choice) (row ∷ rows) values w =
+    value_sum row (chosen_sum n choice rows) values (w.0 ∙ sym (length_chosen_sum n choice rows w.1)) ∙ ap (plus (value_over row values)) (value_chosen n choice rows values w.1)
+value_chosen n (false ∷ choice) (row ∷ rows) values w = value_chosen n choice rows values w.1
 
 -- where each row is a sum of the rows, the zeros alone solve these
 pub spanned_zeros : (n : ℕ) (rows : List (List Bool)) → AreRows n rows → ((row : List Bool) → length row ≡ n → IsSumOf n rows row)

@@ -8,7 +8,7 @@ use Rattle.mb_rows.specs.Places.{is_odd_in, row_from_set, row_of_set, is_odd_ove
 use Rattle.mb_rows.specs.Code.{RaptorCode, l_of}
 use Rattle.mb_rows.specs.Triple.{triple_of}
 use Rattle.mb_rows.specs.Walk.{taken, sum_at, in_lt, lt_row}
-use Rattle.mb_rows.specs.Constraints.{in_ldpc, in_half, in_constraint}
+use Rattle.mb_rows.specs.Constraints.{in_ldpc, in_half, in_constraint, constraint_row}
 use Rattle.mb_rows.specs.Folding.{MeetsConstraints, IsFolded, HasRest, plain_set, half_set, symbol_set, in_folded, folded_row}
 use Rattle.mb_rows.proofs.PlaceLemmas.{with_place, length_set, odd_more}
 use Rattle.mb_rows.proofs.FoldLemmas.{source_symbol, ldpc_symbol, half_symbol}
@@ -287,22 +287,45 @@ meets_by : (c : RaptorCode) (first : List Bool) (v : ℕ → Bool) (i : ℕ) →
 meets_by c first v i e (inl q) = meets_ldpc c first v i e q
 meets_by c first v i e (inr q) = meets_half c first v i (i - c.row.s) e (omega arith)
 
+-- the symbols that the first K make meet the constraints
+made_meet : (c : RaptorCode) (first values : List Bool) (i : ℕ) → ((m : ℕ) → m < l_of c → at_place values m ≡ symbols_of c first m) → i < c.row.s + c.h
+    → value_over (constraint_row c i) values ≡ false
+made_meet c first values i e q =
+    value_of_set (l_of c) (in_constraint c i) values
+    ∙ constraint_total c i (at_place values) q
+    ∙ ap₂ plus (e (c.row.k + i) (omega arith)) (meets_by c first (at_place values) i e (cases_lt i c.row.s))
+    ∙ plus_self (symbols_of c first (c.row.k + i))
+
 pub first_are_free : (c : RaptorCode) (first : List Bool) → length first ≡ c.row.k → HasRest c first
 first_are_free c first long = record {
   values = row_of_set (l_of c) (symbols_of c first);
   meets = record {
     places = length_set (l_of c) (symbols_of c first);
-    each = λ i q.
-        let v : ℕ → Bool = at_place (row_of_set (l_of c) (symbols_of c first)) in
-        value_of_set (l_of c) (in_constraint c i) (row_of_set (l_of c) (symbols_of c first))
-        ∙ constraint_total c i v q
-        ∙ ap₂ plus (value_at c first (c.row.k + i) (omega arith)) (meets_by c first v i (value_at c first) (cases_lt i c.row.s))
-        ∙ plus_self (symbols_of c first (c.row.k + i));
+    each = λ i q. made_meet c first (row_of_set (l_of c) (symbols_of c first)) i (value_at c first) q;
   };
   first_is = front_from_set c.row.k (l_of c) 0 (symbols_of c first) (omega arith)
       ∙ set_from_row c.row.k 0 (symbols_of c first) first long (λ i j e q. source_total c.row.k c.row.s c.h j (at_place first) (omega arith)
       ∙ ap (at_place first) (let same : j ≡ i = omega arith in same));
 }
+
+-- the row of K places by which the first K symbols make one
+abbrev pub made_row : RaptorCode → ℕ → List Bool
+made_row c m = row_of_set c.row.k (symbol_set c.row.k c.row.s c.h m)
+
+pub length_made : (c : RaptorCode) (m : ℕ) → length (made_row c m) ≡ c.row.k
+length_made c m = length_set c.row.k (symbol_set c.row.k c.row.s c.h m)
+
+-- what these rows make of the first K symbols meets the constraints
+pub made_rows_meet : (c : RaptorCode) (first values : List Bool) (i : ℕ) → ((m : ℕ) → m < l_of c → at_place values m ≡ value_over (made_row c m) first)
+    → i < c.row.s + c.h → value_over (constraint_row c i) values ≡ false
+made_rows_meet c first values i e q =
+    made_meet c first values i (λ m p. e m p ∙ value_of_set c.row.k (symbol_set c.row.k c.row.s c.h m) first) q
+
+-- each of the first K symbols is made of itself alone
+pub made_source : (c : RaptorCode) (m : ℕ) (row : List Bool) → m < c.row.k → length row ≡ c.row.k → ((p : ℕ) → p < c.row.k → at_place row p ≡ (m == p)) → made_row c m ≡ row
+made_source c m row q long e =
+    set_from_row c.row.k 0 (symbol_set c.row.k c.row.s c.h m) row long
+    (λ i j f r. source_symbol c.row.k c.row.s c.h m j q ∙ ap (λ (n : ℕ). m == n) (let same : j ≡ i = omega arith in same) ∙ sym (e i r))
 
 -- ---- what is taken, one place after the other
 

@@ -1,0 +1,5 @@
+pub mod Hearing
+pub mod Extending
+pub mod Solutions
+pub mod Middle
+pub mod Putting

@@ -1,0 +1,9 @@
+//! The decoder of the Raptor code (RFC 5053): which symbols of a block are kept, whether they determine the block, and
+//! its source symbols.
+#![tactic(auto)]
+
+mod block;
+mod put;
+mod solve;
+
+pub use block::Decoder;
