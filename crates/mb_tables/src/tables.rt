@@ -1,12 +1,13 @@
-ghost use Rattle.std.specs.Prelude.{◌≡◌, ◌≢◌, ℕ, All, IfErr, ◌<◌, ◌≤◌, ◌++◌, ◌∷◌, [], ◌⊎◌, ◌↔◌, length, map, slice_index, Contains, IsTrue, IfOk, IfSome, IfNone, OnOk, OnErr};
+ghost use Rattle.std.specs.Prelude.{◌≡◌, ◌≢◌, ℕ, All, IfErr, ◌<◌, ◌≤◌, ◌^◌, ◌++◌, ◌∷◌, [], ◌⊎◌, ◌↔◌, length, map, slice_index, Contains, IsTrue, IfOk, IfSome, IfNone, OnOk, OnErr};
 ghost use Rattle.mb_tables.specs.Limits.{IsK, IsRow, IsOut, IsMade};
 ghost use Rattle.mb_tables.specs.Tables.{RaptorTables, AreTables, IsAbove, IsRising};
 ghost use Rattle.mb_tables.specs.Refused.{IsNotAdded};
+ghost use Rattle.mb_tables.specs.Made.{AreMadeWords, HasMadeWords};
 ghost use Rattle.mb_tables.specs.declared.row.Row.{Row};
 
 use crate::limits::{first_out, made_row};
 use crate::{AddFault, Row};
-use mb_base::Memory;
+use mb_base::{Memory, word};
 use std::alloc::Global;
 use std::marker::Model;
 
@@ -62,6 +63,22 @@ impl Tables {
         })
     }
 
+    /// Tables that have no row, with the numbers of made tables: those of the generator's sequence that seed 1
+    /// begins, V1's behind V0's.
+    pub fn made(alloc: Global) -> Result<Tables, Memory>
+        ensures words { IfOk result HasMadeWords }
+        ensures rows { IfOk result (λ t. t.rows ≡ []) }
+    {
+        let v0 = made_words(alloc, 0)?;
+        let v1 = made_words(alloc, 256)?;
+        Ok(Tables {
+            alloc,
+            v0,
+            v1,
+            rows: Vec::new(alloc),
+        })
+    }
+
     /// Equal tables.
     pub fn copy(&self) -> Result<Tables, Memory>
         ensures { IfOk result (λ t. t ≡ self.now) }
@@ -75,6 +92,14 @@ impl Tables {
             v1,
             rows,
         })
+    }
+
+    /// All rows, K rising.
+    pub fn rows(&self) -> &[Row]
+        ensures rows { result.now ≡ self.now.rows }
+        ensures tables { AreTables self.now }
+    {
+        &self.rows
     }
 
     /// The row of K, if the tables have one.
@@ -128,6 +153,19 @@ fn zeros(alloc: Global, len: usize) -> Result<Vec<u32>, Memory>
     ensures zero { IfOk result (λ words. All (λ word. word ≡ 0) words.items) }
 {
     Ok(vec![in alloc; 0; len]?)
+}
+
+// The numbers of one half of made tables. Those of the sequence before `first` are passed over.
+fn made_words(alloc: Global, first: u32) -> Result<Vec<u32>, Memory>
+    requires { first ≤ 256 }
+    ensures words { IfOk result (λ words. AreMadeWords first words.items) }
+    ensures fit { IfOk result (λ words. All (λ number. number < 2 ^ 32) words.items) }
+{
+    let mut words = Vec::new(alloc);
+    for i in 0..256u32 {
+        words.push(word(1, first + i))?;
+    }
+    Ok(words)
 }
 
 /// The row of K, if one of them is.

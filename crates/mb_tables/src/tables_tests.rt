@@ -57,6 +57,7 @@ fn small_tables_are_read_and_written_back(rt: HostRuntime) -> Result<(), Fail> {
     assert_eq!(rt; bytes.len(), 2_066);
     let tables = read(rt.alloc(), bytes).ok().ok_or("the tables")?;
     assert_eq!(rt; [tables.row(4), tables.row(5)], [Some(ROW), None]);
+    assert_eq!(rt; tables.rows(), [ROW].as_slice());
     assert_eq!(rt;
         [tables.v0(0), tables.v0(255), tables.v1(255)],
         [0, 17_850_255, 0]
@@ -80,6 +81,15 @@ fn a_row_is_added_to_tables_without_one(rt: HostRuntime) -> Result<(), Fail> {
     write_tables(&tables, &mut written).ok().ok_or("memory")?;
     let wanted = file(rt.alloc(), &ONE, 1).ok().ok_or("memory")?;
     assert!(rt; written == wanted);
+    Ok(())
+}
+
+#[test]
+fn made_tables_have_the_numbers_of_the_generator(rt: HostRuntime) -> Result<(), Fail> {
+    let tables = Tables::made(rt.alloc()).ok().ok_or("memory")?;
+    assert_eq!(rt; [tables.v0(0), tables.v0(1)], [0x514e_28b7, 0x96a0_f96b]);
+    assert_eq!(rt; tables.v1(255), 0xccb7_e704);
+    assert!(rt; tables.rows().is_empty());
     Ok(())
 }
 
