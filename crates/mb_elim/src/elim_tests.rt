@@ -87,6 +87,21 @@ fn a_plain_elimination_gives_the_same_answers(rt: HostRuntime) -> Result<(), Fai
     Ok(())
 }
 
+#[test]
+fn rows_of_the_smallest_code_are_told_apart(rt: HostRuntime) -> Result<(), Fail> {
+    let mut elim = Elim::new(rt.alloc(), 4)?;
+    for row in [7, 6, 8] {
+        assert!(rt; offered(&rt, &mut elim, row));
+    }
+    let mut copy = elim.copy(rt.alloc())?;
+    assert_eq!(rt; copy.rank(), 3);
+    for (row, is_new) in [(7, false), (1, false), (14, false), (12, true)] {
+        assert_eq!(rt; offered(&rt, &mut copy, row), is_new, "{row}");
+    }
+    assert_eq!(rt; [elim.rank(), copy.rank()], [3, 4]);
+    Ok(())
+}
+
 // Byte `b` of unknown `i`.
 fn unknown(i: usize, b: usize) -> u8 {
     (i.wrapping_mul(i)

@@ -7,12 +7,13 @@ use std::alloc::Global;
 use std::process::Abort;
 use std::test::Fail;
 
-/// Tables with V0[i] = 70001 i, V1[i] = 0, and one row.
-fn tables_with(alloc: Global, row: Row) -> Result<Tables, TablesFault> {
+/// Tables with V0[i] = first + step i, V1[i] = 0, and one row.
+fn tables_with(alloc: Global, first: u32, step: u32, row: Row) -> Result<Tables, TablesFault> {
     let mut bytes = Vec::new(alloc);
     bytes.extend_from_slice(b"RAPTAB01")?;
     for i in 0..256u32 {
-        bytes.extend_from_slice(&(70_001 * i).to_be_bytes())?;
+        let word = first.wrapping_add(step.wrapping_mul(i));
+        bytes.extend_from_slice(&word.to_be_bytes())?;
     }
     for _ in 0..256 {
         bytes.extend_from_slice(&[0; 4])?;
@@ -25,12 +26,17 @@ fn tables_with(alloc: Global, row: Row) -> Result<Tables, TablesFault> {
     read_tables(alloc, &mut source)
 }
 
-fn code_of(alloc: Global, k: u16, s: u16, lp: u16) -> Result<Code, CodeFault> {
-    let row = Row { k, j: 0, s, lp };
-    match tables_with(alloc, row) {
-        Ok(tables) => Code::new(alloc, &tables, k),
+/// The code of these tables.
+fn code_with(alloc: Global, first: u32, step: u32, row: Row) -> Result<Code, CodeFault> {
+    match tables_with(alloc, first, step, row) {
+        Ok(tables) => Code::new(alloc, &tables, row.k),
         Err(_) => Err(CodeFault::Memory),
     }
+}
+
+/// The code of tables with V0[i] = 70001 i.
+fn code_of(alloc: Global, k: u16, s: u16, lp: u16) -> Result<Code, CodeFault> {
+    code_with(alloc, 0, 70_001, Row { k, j: 0, s, lp })
 }
 
 // The LT row of an ESI and its folded row, of a code with one word in each.
@@ -111,6 +117,64 @@ fn the_smallest_code_has_its_worked_rows(rt: HostRuntime) -> Result<(), Fail> {
     Ok(())
 }
 
+// Constraint i, of a code with one word in each.
+fn constraint(rt: &impl Abort, code: &Code, i: u16) -> u64 {
+    assert_eq!(rt; words_for(usize::from(code.l())), 1);
+    assert!(rt; i < code.l() - code.k());
+    let mut row = [u64::MAX];
+    code.constraint(i, &mut row);
+    row[0]
+}
+
+// The sum of the symbols at the places of a row, each of them a sum of the first four, which are the bits of a number.
+fn sum_over(row: u64, symbols: &[u64; 14]) -> u64 {
+    let mut sum = 0;
+    for place in 0..14usize {
+        if row >> place & 1 == 1 {
+            sum ^= symbols[place];
+        }
+    }
+    sum
+}
+
+#[test]
+fn the_smallest_code_has_its_worked_symbols(rt: HostRuntime) -> Result<(), Fail> {
+    let code = code_of(rt.alloc(), 4, 5, 17).ok().ok_or("the code")?;
+    let symbols = [1, 2, 4, 8, 9, 3, 7, 14, 12, 12, 2, 2, 3, 15];
+    for i in 0..10 {
+        assert_eq!(rt; sum_over(constraint(&rt, &code, i), &symbols), 0);
+    }
+    for esi in 0..100 {
+        let (row, folded) = rows(&rt, &code, esi);
+        assert_eq!(rt; sum_over(row, &symbols), folded);
+    }
+    // Bit h of m[j, 3] is set where half symbol h takes symbol j.
+    let marks = [7, 13, 14, 11, 25, 26, 28, 21, 22];
+    for h in 0..5u16 {
+        let row = constraint(&rt, &code, 5 + h);
+        for j in 0..9usize {
+            assert_eq!(rt; row >> j & 1, marks[j] >> h & 1);
+        }
+    }
+    Ok(())
+}
+
+#[test]
+fn degrees_go_by_their_bounds(rt: HostRuntime) -> Result<(), Fail> {
+    let row = Row {
+        k: 100,
+        j: 0,
+        s: 17,
+        lp: 127,
+    };
+    for (v, degree) in [(10_240, 1), (10_241, 2), (1_048_575, 40)] {
+        let code = code_with(rt.alloc(), v, 0, row).ok().ok_or("the code")?;
+        assert_eq!(rt; code.l(), 126);
+        assert_eq!(rt; code.triple(7).d, degree);
+    }
+    Ok(())
+}
+
 #[test]
 fn constraints_take_a_place_twice_as_none(rt: HostRuntime) -> Result<(), Fail> {
     let code = code_of(rt.alloc(), 4, 6, 17).ok().ok_or("the code")?;
@@ -118,11 +182,8 @@ fn constraints_take_a_place_twice_as_none(rt: HostRuntime) -> Result<(), Fail> {
         17u64, 35, 71, 142, 268, 520, 1_691, 2_861, 4_551, 8_318, 17_392,
     ];
     assert_eq!(rt; code.l() - code.k(), 11);
-    assert_eq!(rt; words_for(usize::from(code.l())), 1);
     for i in 0..11u16 {
-        let mut row = [u64::MAX];
-        code.constraint(i, &mut row);
-        assert_eq!(rt; row[0], wanted[usize::from(i)]);
+        assert_eq!(rt; constraint(&rt, &code, i), wanted[usize::from(i)]);
     }
     assert_eq!(rt; rows(&rt, &code, 0), (26_483, 10));
     Ok(())

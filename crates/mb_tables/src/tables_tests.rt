@@ -156,23 +156,44 @@ fn a_failing_source_is_told(rt: HostRuntime) -> Result<(), Fail> {
     Ok(())
 }
 
-#[test]
-fn rows_are_made_within_their_limits(rt: HostRuntime) -> Result<(), Fail> {
-    let tables = Tables::none(rt.alloc()).ok().ok_or("memory")?;
-    let row = |k, j, s, lp| Row { k, j, s, lp };
-    for (k, s, lp) in [(4, 5, 15), (10, 7, 23), (8_192, 211, 8_419)] {
-        assert_eq!(rt; make_row(&tables, k, 3), row(k, 3, s, lp));
+/// How the row is taken by tables that have none.
+fn added(alloc: Global, k: u16, s: u16, lp: u16) -> Result<(), AddFault> {
+    match Tables::none(alloc) {
+        Ok(mut tables) => tables.add(Row { k, j: 0, s, lp }),
+        Err(_) => Err(AddFault::Memory),
     }
-    for (given, wanted) in [
-        (row(8_193, 0, 211, 8_419), Err(AddFault::Range(0))),
-        (row(8_192, 0, 210, 8_419), Err(AddFault::Range(2))),
-        (row(8_192, 0, 513, 8_800), Err(AddFault::Range(2))),
-        (row(8_192, 0, 211, 8_418), Err(AddFault::Range(3))),
-        (row(8_192, 0, 211, 16_838), Err(AddFault::Range(3))),
-        (row(8_192, 0, 211, 16_837), Ok(())),
+}
+
+#[test]
+fn rows_are_taken_within_their_limits(rt: HostRuntime) -> Result<(), Fail> {
+    let alloc = rt.alloc();
+    // The least S and the most for K symbols, with L.
+    for (k, s, l) in [
+        (4, 5, 14),
+        (4, 512, 528),
+        (100, 16, 125),
+        (100, 512, 624),
+        (8_192, 211, 8_419),
+        (8_192, 512, 8_720),
     ] {
-        let mut other = Tables::none(rt.alloc()).ok().ok_or("memory")?;
-        assert_eq!(rt; other.add(given), wanted);
+        let past = if s == 512 { 513 } else { s - 1 };
+        assert_eq!(rt; added(alloc, k, s, l), Ok(()));
+        assert_eq!(rt; added(alloc, k, s, 2 * l - 1), Ok(()));
+        assert_eq!(rt; added(alloc, k, s, l - 1), Err(AddFault::Range(3)));
+        assert_eq!(rt; added(alloc, k, s, 2 * l), Err(AddFault::Range(3)));
+        assert_eq!(rt; added(alloc, k, past, l), Err(AddFault::Range(2)));
+    }
+    for k in [0, 3, 8_193, 65_535] {
+        assert_eq!(rt; added(alloc, k, 512, 8_720), Err(AddFault::Range(0)));
+    }
+    Ok(())
+}
+
+#[test]
+fn rows_are_made_by_the_rule(rt: HostRuntime) -> Result<(), Fail> {
+    let tables = Tables::none(rt.alloc()).ok().ok_or("memory")?;
+    for (k, s, lp) in [(4, 5, 15), (10, 7, 23), (100, 17, 127), (8_192, 211, 8_419)] {
+        assert_eq!(rt; make_row(&tables, k, 3), Row { k, j: 3, s, lp });
     }
     Ok(())
 }
