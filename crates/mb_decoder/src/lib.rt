@@ -3,6 +3,8 @@
 #![tactic(auto)]
 
 mod block;
+#[cfg(test)]
+mod decoder_tests;
 mod put;
 mod solve;
 
