@@ -3,6 +3,8 @@
 #![tactic(auto)]
 
 #[cfg(test)]
+mod determined_tests;
+#[cfg(test)]
 mod encoder_tests;
 mod fault;
 mod intermediate;
