@@ -12,7 +12,9 @@ from support.programs import (
     READ_FAULT,
     USAGE,
     ProgramTest,
+    check_words,
     fdt_line,
+    make_words,
     path_of,
     receive_words,
     show_words,
@@ -27,15 +29,19 @@ END = f"end ended {MOMENT} datagrams 2\n"
 SHOWN = f"at {MOMENT} tsi 1 toi 5 sbn 0 esi 0 bytes 5\n"
 
 
+# What reads the standard input, and its status where that can't be read.
+INPUTS = ((receive_words, AIR_FAULT), (show_words, READ_FAULT), (check_words, READ_FAULT))
+
+
 def programs():
-    return receive_words(), show_words()
+    return receive_words(), show_words(), check_words(), make_words(4)
 
 
 class Outputs(ProgramTest):
     """Where the first line can't be printed, no file is stored."""
 
     def is_stopped(self, words, **how):
-        with self.subTest(os.path.basename(words[0])):
+        with self.subTest([os.path.basename(word) for word in words]):
             self.is_ended(self.called(words, TRACE, **how), OUT_FAULT, "")
             self.has_files({})
 
@@ -78,8 +84,9 @@ class Outputs(ProgramTest):
 class Inputs(ProgramTest):
     def is_unread(self, **how):
         """Nothing is heard, put or shown."""
-        for words, status in ((receive_words(), AIR_FAULT), (show_words(), READ_FAULT)):
-            with self.subTest(status):
+        for words, status in INPUTS:
+            words = words()
+            with self.subTest(words):
                 closed = ["sh", "-c", 'exec "$@" <&-', "sh", *words]
                 self.is_ended(self.called(words if how else closed, **how), status, "")
                 self.has_files({})
@@ -98,8 +105,8 @@ class Inputs(ProgramTest):
             self.is_ended(ended, USAGE, "usage\n")
 
     def test_all_streams_closed(self):
-        for words, status in ((receive_words(), AIR_FAULT), (show_words(), READ_FAULT)):
-            ended = self.called(["sh", "-c", 'exec "$@" <&- >&- 2>&-', "sh", *words])
+        for words, status in (*INPUTS, (lambda: make_words(4), OUT_FAULT)):
+            ended = self.called(["sh", "-c", 'exec "$@" <&- >&- 2>&-', "sh", *words()])
             self.is_ended(ended, status, "")
             self.has_files({})
 

@@ -1,7 +1,6 @@
 -- How the parts of showing a trace join.
-use Rattle.std.proofs.Common.{◌≡◌, ℕ, ◌<◌, ◌≤◌, ◌+◌, ◌-◌, Bool, cond, true, false, List, [], ◌∷◌, ◌++◌, take, length, map, get_or, Option, Some, None, Result, Ok, Err, refl, sym, ap, ap₂, subst, ◌∙◌, string_bytes, Global, codes, append_assoc, append-nil, length-append, arith}
-use Rattle.std.specs.Prelude.{IsTrue, String, nat_lt, option_map}
-use Rattle.std.specs.Bool.{Decides}
+use Rattle.std.proofs.Common.{◌≡◌, ℕ, ◌<◌, ◌≤◌, ◌+◌, ◌-◌, Bool, cond, true, false, List, [], ◌∷◌, ◌++◌, take, length, Option, Some, None, Result, Ok, Err, refl, sym, ap, ap₂, subst, ◌∙◌, append_assoc, append-nil, length-append, arith}
+use Rattle.std.specs.Prelude.{nat_lt, option_map}
 use Rattle.std.proofs.lemmas.List.{take_at, drop_at, take_all, length-take}
 use Rattle.std.proofs.lemmas.Bool.{lt-ltb, le-ltb}
 use Rattle.std.proofs.lemmas.Grind.{flat_map-append}
@@ -17,22 +16,10 @@ use Rattle.mb_base.proofs.Content.{Grows-nil, Grows-trans}
 use Rattle.mb_program.specs.Lines as line
 use Rattle.mb_program.specs.Printing.{PrintsPart}
 use Rattle.mbms_tab.specs.Lines.{show_text, record_line}
-use Rattle.mbms_tab.specs.Forms.{show_arguments}
 use Rattle.mbms_tab.specs.Show.{records_most, break_text, trace_text, PrintsFirst, PrintsCome, AreCome}
 use Rattle.mbms_tab.specs.Steps.{PrintsUnless, Ahead, trace_ahead, TakesBytes, IsTaken, IsUnread, IsNext, IsShownAhead, ShowsAhead, ShowsOrStops, IsGathered, IsReadSoFar, IsReadWhole, IsRead, Finishes}
 use Rattle.mbms_tab.specs.declared.showing.Turn.{Turn}
 use Rattle.mbms_tab.specs.declared.showing.Turn.TheVariants.{More, Over}
-
--- ---- the words
-
-pub shown_words : (words : List (String Global)) (word : String Global) (shown : List ℕ) (same : Bool)
-    → 1 ≤ length words → length words < 2 → word ≡ get_or words 0 word → shown ≡ string_bytes word → Decides same (shown ≡ codes "show")
-    → (IsTrue same → map string_bytes words ≡ show_arguments) × (map string_bytes words ≡ show_arguments → IsTrue same)
-shown_words [] word shown same some one at is test = absurd (omega arith)
-shown_words (w ∷ []) word shown same some one at is test =
-    let bytes : shown ≡ string_bytes w = is ∙ ap string_bytes at in
-    ((λ yes. ap (λ (b : List ℕ). b ∷ []) (sym bytes ∙ test.0 yes)), (λ e. let first : string_bytes w ≡ codes "show" = cc e in test.1 (bytes ∙ first)))
-shown_words (w ∷ v ∷ ws) word shown same some one at is test = absurd (omega arith)
 
 -- ---- texts
 

@@ -2,6 +2,7 @@
 ghost use Rattle.std.specs.Prelude.{◌≡◌, ◌+◌, ◌≤◌, None};
 
 use crate::command::tab;
+use crate::progress::Progress;
 use mb_base::{
     DATAGRAM_MAX, Failed, MemSink, MemSource, Memory, Sink, Source, Status, put_be32, trace_bytes,
 };
@@ -43,17 +44,31 @@ const HELLO_LINE: &str = "at 3899999000 tsi 1 toi 5 sbn 0 esi 0 bytes 5";
 
 /// What a call left.
 #[derive(Drop)]
-struct Left {
-    status: Status,
-    out: MemSink,
+pub struct Left {
+    pub status: Status,
+    pub out: MemSink,
+    /// What was told of its work last.
+    pub told: Option<(usize, usize)>,
+}
+
+/// Keeps what was told last.
+#[derive(Drop)]
+struct LastTold {
+    last: Option<(usize, usize)>,
+}
+
+impl Progress for LastTold {
+    fn tell(&mut self, done: usize, all: usize) {
+        self.last = Some((done, all));
+    }
 }
 
 /// A sink that takes three bytes in each call, and fails once there is no room for any.
 #[derive(Drop)]
-struct Narrow {
-    bytes: Vec<u8>,
-    room: usize,
-    faults: u64,
+pub struct Narrow {
+    pub bytes: Vec<u8>,
+    pub room: usize,
+    pub faults: u64,
 }
 
 impl Sink for Narrow {
@@ -99,22 +114,25 @@ fn trace_of(rt: &impl Abort, alloc: Global, sent: &[Sent<'_>]) -> Result<Vec<u8>
     Ok(trace)
 }
 
-fn called<R: Threads + Sync + AllocGlobal, S: Source, O: Sink>(
+/// The status of a call, and what was told of its work last.
+pub fn called<R: Threads + Sync + AllocGlobal, S: Source, O: Sink>(
     rt: &R,
     words: &[&str],
     src: &mut S,
     out: &mut O,
-) -> Result<Status, Memory> {
+) -> Result<(Status, Option<(usize, usize)>), Memory> {
     let alloc: Global = rt.alloc();
     let words: Vec<String> = words
         .iter()
         .map(|word| String::from_str(alloc, word))
         .try_collect(alloc)?;
-    Ok(tab(rt, alloc, words.as_slice(), src, out))
+    let mut progress = LastTold { last: None };
+    let status = tab(rt, alloc, words.as_slice(), src, out, &mut progress);
+    Ok((status, progress.last))
 }
 
 /// What a call leaves where the listed calls of the source and of the sink fail.
-fn left_by<R: Threads + Sync + AllocGlobal>(
+pub fn left_by<R: Threads + Sync + AllocGlobal>(
     rt: &R,
     words: &[&str],
     trace: &[u8],
@@ -124,11 +142,11 @@ fn left_by<R: Threads + Sync + AllocGlobal>(
     let [of_source, of_sink] = failing;
     let mut src = MemSource::new(trace.to_vec(alloc)?, of_source.to_vec(alloc)?)?;
     let mut out = MemSink::new(alloc, of_sink.to_vec(alloc)?)?;
-    let status = called(rt, words, &mut src, &mut out)?;
-    Ok(Left { status, out })
+    let (status, told) = called(rt, words, &mut src, &mut out)?;
+    Ok(Left { status, out, told })
 }
 
-fn assert_left<R: Abort + AllocGlobal>(
+pub fn assert_left<R: Abort + AllocGlobal>(
     rt: &R,
     left: &Left,
     printed: &[&str],
@@ -235,13 +253,23 @@ fn a_broken_trace_is_shown_to_its_place(rt: HostRuntime) -> Result<(), Fail> {
 #[test]
 fn other_words_print_usage(rt: HostRuntime) -> Result<(), Fail> {
     let trace = trace_of(&rt, rt.alloc(), &[HELLO])?;
-    let cases: [&[&str]; 6] = [
+    let cases: [&[&str]; 16] = [
         &[],
         &[""],
         &["Show"],
         &["show "],
-        &["show", "show"],
-        &["check"],
+        &["show", "x"],
+        &["check", "x"],
+        &["make"],
+        &["make", ""],
+        &["make", "3"],
+        &["make", "8193"],
+        &["make", "18446744073709551620"],
+        &["make", "+4"],
+        &["make", "4 "],
+        &["make", "5", "4"],
+        &["make", "4", "4"],
+        &["4"],
     ];
     for words in cases {
         let left = left_by(&rt, words, &trace, [&[], &[]])?;
@@ -293,7 +321,7 @@ fn a_full_sink_has_whole_lines_and_a_beginning(rt: HostRuntime) -> Result<(), Fa
         room: 54,
         faults: 0,
     };
-    let status = called(&rt, &SHOW, &mut src, &mut out)?;
+    let (status, _) = called(&rt, &SHOW, &mut src, &mut out)?;
     assert_eq!(rt; status.number(), 8);
     let mut lines = join(rt.alloc(), &[HELLO_LINE, HELLO_LINE])?;
     lines.truncate(54);

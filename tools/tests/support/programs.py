@@ -13,7 +13,7 @@ from collections import namedtuple
 ROOT = os.path.dirname(os.path.dirname(os.path.dirname(os.path.dirname(os.path.abspath(__file__)))))
 # In seconds. Nothing that is called here takes one.
 PATIENCE = 60
-DONE, INCOMPLETE, USAGE, BROKEN, READ_FAULT, AIR_FAULT, STORE_FAULT, OUT_FAULT, MEMORY = 0, 1, 2, 4, 5, 6, 7, 8, 9
+DONE, INCOMPLETE, USAGE, TABLES, BROKEN, READ_FAULT, AIR_FAULT, STORE_FAULT, OUT_FAULT, MEMORY = range(10)
 
 Ended = namedtuple("Ended", "status lines told")
 
@@ -33,6 +33,14 @@ def receive_words(tsi=1):
 
 def show_words():
     return [path_of("mbms_tab"), "show"]
+
+
+def check_words():
+    return [path_of("mbms_tab"), "check"]
+
+
+def make_words(*ks):
+    return [path_of("mbms_tab"), "make", *map(str, ks)]
 
 
 def fdt_line(started, number=1, prolonged=0, conflicting=0, refused=0, norow=0, full=0):
@@ -69,14 +77,19 @@ class ProgramTest(unittest.TestCase):
                     pass
         child.wait()
 
-    def called(self, words, given=b"", **how):
-        """The status of the program over the bytes that are given, and what it printed to both outputs."""
+    def written(self, words, given=b"", **how):
+        """The status of the program over the bytes that are given, and what it wrote to both outputs."""
         child = self.started(words, **how)
         try:
             lines, told = child.communicate(given, timeout=PATIENCE)
         except subprocess.TimeoutExpired:
             self.fail(f"{words} had not ended after {PATIENCE} seconds")
-        return Ended(child.returncode, (lines or b"").decode(), told.decode(errors="replace"))
+        return Ended(child.returncode, lines or b"", (told or b"").decode(errors="replace"))
+
+    def called(self, words, given=b"", **how):
+        """The same, where it printed lines."""
+        ended = self.written(words, given, **how)
+        return ended._replace(lines=ended.lines.decode())
 
     def is_ended(self, ended, status, lines):
         """The program ended with the status, printed these lines, and told nothing else, as of a panic."""
