@@ -16,7 +16,7 @@ use Rattle.mb_encoder.proofs.Solving.{solutions_agree}
 use Rattle.mb_decoder.specs.Kept.{pairs_in}
 use Rattle.mb_decoder.specs.Sources.{IsCopied, AreCopied, AreSources}
 use Rattle.mb_decoder.proofs.Extending.{all_of, all_folded}
-use Rattle.mb_decoder.proofs.Solutions.{kept_sum, replayed_solve}
+use Rattle.mb_decoder.proofs.Solutions.{kept_sum, replayed_solve, full_solve}
 
 bit_either : (b : Bool) → (b ≡ true) ⊎ (b ≡ false)
 bit_either true = inl refl
@@ -71,5 +71,19 @@ sources_are c t k es xs ys noted copy out rows f are free many e d replay small_
       solve = own;
       each = λ us s b q.
           source_by c t k esi b es xs ys noted copy out us d own s (λ y. copied esi (omega arith) y) (λ y. stay esi b p y q) (λ y. put esi b p y q) q (bit_either (bit_in noted esi))
+          ∙ sym (nth_firsts (byte_at t out esi) 0 t b q);
+    }
+
+-- where each source symbol was copied, nothing need be replayed
+pub copies_are : (c : RaptorCode) (t k : ℕ) (es xs noted out : List ℕ) (rows : List (List Bool)) → k ≡ c.row.k → AreRows k rows → AreIndependent k rows → length rows ≡ k
+    → rows ≡ map (folded_row c) (esis (pairs_in t es xs k)) → ((j : ℕ) → slice_index xs j < 2 ^ 8) → ((j : ℕ) → slice_index out j < 2 ^ 8)
+    → AreCopied t k k es xs noted out → ((esi : ℕ) → esi < k → bit_in noted esi ≡ true) → AreSources c t (pairs_in t es xs k) out
+copies_are c t k es xs noted out rows f are free many e small_xs small copied all esi p =
+    let found = full_solve c t k es xs rows f are free many e small_xs in record {
+      is_symbol = put_symbol_is t esi out small;
+      some = found.some;
+      solve = found.solve;
+      each = λ us s b q.
+          copied_sum c t k esi b es xs out us (copied esi (omega arith) (all esi (omega arith))) s q
           ∙ sym (nth_firsts (byte_at t out esi) 0 t b q);
     }

@@ -1,6 +1,10 @@
 -- What is replayed of the symbols that are kept makes a solution of them.
-use Rattle.std.proofs.Common.{◌≡◌, ℕ, zero, suc, ◌+◌, ◌*◌, ◌^◌, ◌<◌, Bool, List, [], ◌∷◌, length, map, slice_index, slice_index_or, ap, sym, ◌∙◌, arith}
+use Rattle.std.proofs.Common.{◌≡◌, ℕ, zero, suc, ◌+◌, ◌*◌, ◌^◌, ◌<◌, Bool, List, [], ◌∷◌, length, map, slice_index, slice_index_or, ap, sym, ◌∙◌, arith, ◌%◌, true, false, bit_xor, refl, ap₂}
 use Rattle.std.specs.List.{AllByRecursion}
+use Rattle.std.proofs.lemmas.List.{length-map}
+use Rattle.std.proofs.lemmas.Nat.{xor_mod}
+use Rattle.mb_linear.specs.Row.{AreRows}
+use Rattle.mb_linear.specs.Span.{AreIndependent}
 use Rattle.mb_elim.specs.Kept.{firsts}
 use Rattle.mb_elim.specs.Values.{byte_at, byte_sum, AreSums, AreUnknowns}
 use Rattle.mb_elim.proofs.Snoc.{length_firsts, nth_firsts, all_firsts}
@@ -9,6 +13,7 @@ use Rattle.mb_rows.specs.Walk.{lt_row}
 use Rattle.mb_rows.specs.Folding.{folded_row}
 use Rattle.mb_encoder.specs.Symbols.{SumTo, symbol_of, symbols_of}
 use Rattle.mb_encoder.specs.Solutions.{Pair, SolvePairs, esis}
+use Rattle.mb_encoder.proofs.Inverse.{full_unknowns}
 use Rattle.mb_encoder.proofs.Lifting.{byte_same}
 use Rattle.mb_encoder.proofs.Offering.{length_folded}
 use Rattle.mb_encoder.proofs.Summing.{nth_symbol}
@@ -80,4 +85,58 @@ replayed_solve c t k es xs ys rows unknowns f count sums are e many small =
           all_folded c t (slice_index es n) b us size q
           ∙ replayed_sum c t k n b es xs ys rows unknowns f count sums are e many p q
           ∙ sym (nth_firsts (byte_at t xs n) 0 t b q));
+    }
+
+-- ---- the unknowns that the kept rows have
+
+-- the last 8 bits of each number of a symbol of t bytes
+cut_at : List ℕ → ℕ → ℕ
+cut_at symbol b = slice_index symbol b % 2 ^ 8
+
+abbrev cut : ℕ → List ℕ → List ℕ
+cut t symbol = firsts (cut_at symbol) t
+
+-- sums of these are the last 8 bits of the sums
+cut_sum : (t b : ℕ) (row : List Bool) (us : List (List ℕ)) → b < t → byte_sum b row (map (cut t) us) ≡ byte_sum b row us % 2 ^ 8
+unfolding byte_sum cut_at
+cut_sum t b [] us q = refl
+cut_sum t b (c ∷ row) [] q = refl
+cut_sum t b (true ∷ row) (u ∷ us) q =
+    ap₂ bit_xor (nth_firsts (cut_at u) 0 t b q) (cut_sum t b row us q) ∙ sym (xor_mod (slice_index u b) (byte_sum b row us) 8)
+cut_sum t b (false ∷ row) (u ∷ us) q = cut_sum t b row us q
+
+cut_small : (t b n : ℕ) (us : List (List ℕ)) → b < t → slice_index (slice_index_or (map (cut t) us) n []) b < 2 ^ 8
+unfolding cut_at
+cut_small t b n [] q = omega arith
+cut_small t b zero (u ∷ us) q =
+    let is = nth_firsts (cut_at u) 0 t b q in omega arith
+cut_small t b (suc n) (u ∷ us) q = cut_small t b n us q
+
+pub record HasSolution (c : RaptorCode) (t : ℕ) (pairs : List Pair) : Type 0 where
+  pub some : List (List ℕ)
+  pub solve : SolvePairs c t pairs some
+
+-- cut to bytes, they make a solution
+pub full_solve : (c : RaptorCode) (t k : ℕ) (es xs : List ℕ) (rows : List (List Bool)) → k ≡ c.row.k → AreRows k rows → AreIndependent k rows → length rows ≡ k
+    → rows ≡ map (folded_row c) (esis (pairs_in t es xs k)) → ((j : ℕ) → slice_index xs j < 2 ^ 8) → HasSolution c t (pairs_in t es xs k)
+unfolding all_of pairs_in
+full_solve c t k es xs rows f are free many e small =
+    let found = full_unknowns t k rows xs are free many in
+    let us = map (cut t) found.unknowns in
+    let count : length us ≡ c.row.k = length-map found.unknowns (cut t) ∙ found.count ∙ f in record {
+      some = all_of c t us;
+      solve = record {
+        count = length_all c t us;
+        each_symbol = all_firsts _ _ (l_of c) (λ m p. all_symbols c t m us (λ b n q r. cut_small t b n found.unknowns q));
+        meet = λ i p b q. all_meet c t i b us p q;
+        each_pair = all_firsts _ (pair_in t es xs) k (λ n p b q.
+            let sum = found.sums n b (omega arith) q in
+            let few = small (t * n + b) in
+            let same : byte_sum b (slice_index_or rows n []) found.unknowns % 2 ^ 8 ≡ byte_at t xs n b = omega arith in
+            all_folded c t (slice_index es n) b us count q
+            ∙ ap (λ (row : List Bool). byte_sum b row us) (sym (row_is c t k n es xs rows e p))
+            ∙ cut_sum t b (slice_index_or rows n []) found.unknowns q
+            ∙ same
+            ∙ sym (nth_firsts (byte_at t xs n) 0 t b q));
+      };
     }

@@ -1,5 +1,5 @@
 -- How a block stands in memory: the ESIs and the symbols that are kept, one behind the other, with room for K of them.
-use Rattle.std.specs.Prelude.{◌≡◌, ℕ, ◌+◌, ◌*◌, ◌/◌, ◌≤◌, List, length, slice_index}
+use Rattle.std.specs.Prelude.{◌≡◌, ℕ, ◌*◌, ◌≤◌, List, length, slice_index}
 use Rattle.mb_elim.specs.Offered.{Offered}
 use Rattle.mb_elim.specs.Kept.{firsts}
 use Rattle.mb_encoder.specs.Symbols.{symbol_of}
@@ -18,8 +18,7 @@ block_in t offered esis symbols =
     record { k = offered.places; t = t; kept = pairs_in t esis symbols (length offered.news); rows = offered.news }
 
 -- there is room for all
-pub record AreBuffers (t : ℕ) (offered : Offered) (esis symbols words : List ℕ) : Type 0 where
+pub record AreBuffers (t : ℕ) (offered : Offered) (esis symbols : List ℕ) : Type 0 where
   pub few : length offered.news ≤ offered.places
   pub esis_are : length esis ≡ offered.places
   pub symbols_are : length symbols ≡ t * offered.places
-  pub words_are : length words ≡ (offered.places + 63) / 64

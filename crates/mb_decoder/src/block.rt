@@ -2,7 +2,8 @@ ghost use Rattle.std.specs.Prelude.{◌≡◌, ◌↔◌, ℕ, ◌+◌, ◌*◌,
 ghost use Rattle.mb_rows.specs.Code.{RaptorCode};
 ghost use Rattle.mb_rows.specs.Determined.{Determines, DetermineBlock};
 
-use crate::put::{put_symbol, zero_bytes, zero_esis, zero_words};
+use crate::put::{put_symbol, zero_bytes, zero_esis};
+use crate::row::{ROW_WORDS, room};
 use crate::solve::put_sources;
 use mb_base::Memory;
 use mb_bits::words_for;
@@ -23,8 +24,6 @@ pub struct Decoder {
     esis: Vec<u16>,
     /// Their bytes, with room for K symbols.
     symbols: Vec<u8>,
-    /// Room for a row.
-    row: Vec<u64>,
 }
 
 impl Model for Decoder {
@@ -35,7 +34,7 @@ impl Model for Decoder {
 
     ghost view = { λ d. block_in d.t d.offered d.esis.items d.symbols.items };
 
-    ghost invariant = { λ d. AreBuffers d.t d.offered d.esis.items d.symbols.items d.row.items };
+    ghost invariant = { λ d. AreBuffers d.t d.offered d.esis.items d.symbols.items };
 }
 
 impl Decoder {
@@ -57,13 +56,11 @@ impl Decoder {
         let offered = Elim::new(alloc, k)?;
         let esis = zero_esis(alloc, places)?;
         let symbols = zero_bytes(alloc, usize::from(t) * places)?;
-        let row = zero_words(alloc, words_for(places))?;
         Ok(Decoder {
             t,
             offered,
             esis,
             symbols,
-            row,
         })
     }
 
@@ -72,6 +69,21 @@ impl Decoder {
         ensures { result ≡ self.now.t }
     {
         self.t
+    }
+
+    /// K, the number of source symbols.
+    pub fn k(&self) -> u16
+        ensures { result ≡ self.now.k }
+    {
+        self.offered.places()
+    }
+
+    /// The bytes of its memory, at most: the symbols, their ESIs, and two tables of rows.
+    pub fn buffered(&self) -> u64
+        ensures { result ≡ self.now.k * self.now.t + 2 * self.now.k + 16 * self.now.k * ((self.now.k + 63) / 64) }
+    {
+        let k = u64::from(self.offered.places());
+        k * u64::from(self.t) + 2 * k + 16 * k * k.div_ceil(64)
     }
 
     /// How many symbols are kept.
@@ -102,8 +114,10 @@ impl Decoder {
         ensures t { self.new.t ≡ self.old.t }
         ensures of { IsOf code.now self.new }
     {
-        code.folded_row(esi, &mut self.row);
-        match self.offered.offer(&self.row) {
+        let mut room = room::<ROW_WORDS>();
+        let row = &mut room[..words_for(usize::from(code.k()))];
+        code.folded_row(esi, row);
+        match self.offered.offer(row) {
             Offer::Determined => false,
             Offer::New(n) => {
                 let _rank = self.offered.rank();
@@ -130,16 +144,7 @@ impl Decoder {
             offered,
             esis,
             mut symbols,
-            mut row,
         } = self;
-        put_sources(
-            code,
-            &offered,
-            &esis,
-            usize::from(t),
-            &mut symbols,
-            &mut row,
-            out,
-        );
+        put_sources(code, &offered, &esis, usize::from(t), &mut symbols, out);
     }
 }

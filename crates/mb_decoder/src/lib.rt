@@ -6,6 +6,7 @@ mod block;
 #[cfg(test)]
 mod decoder_tests;
 mod put;
+mod row;
 mod solve;
 
 pub use block::Decoder;

@@ -4,13 +4,6 @@ ghost use Rattle.mb_decoder.specs.Block.{filled};
 use mb_base::Memory;
 use std::alloc::Global;
 
-/// Words that are all zero.
-pub(crate) fn zero_words(alloc: Global, count: usize) -> Result<Vec<u64>, Memory>
-    ensures { IfOk result (λ words. length words.items ≡ count) }
-{
-    Ok(vec![in alloc; 0; count]?)
-}
-
 /// Bytes that are all zero.
 pub(crate) fn zero_bytes(alloc: Global, count: usize) -> Result<Vec<u8>, Memory>
     ensures { IfOk result (λ bytes. length bytes.items ≡ count) }

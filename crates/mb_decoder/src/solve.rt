@@ -9,21 +9,11 @@ ghost use Rattle.mb_decoder.specs.Block as block;
 ghost use Rattle.mb_decoder.specs.Kept as kept;
 ghost use Rattle.mb_decoder.specs.Sources.{AreSources, AreCopied};
 
-use mb_bits::{flip_bit, has_bit};
+use crate::row::{ROW_WORDS, are_set, room};
+use mb_bits::{flip_bit, has_bit, words_for};
 use mb_elim::Elim;
 use mb_encoder::put_sum;
 use mb_rows::Code;
-
-/// The most words that a row of K places has.
-const ROW_WORDS: usize = 128;
-
-// Room for a row. Its length is a parameter, since a proof would write a literal number of zeros out.
-fn room<const LEN: usize>() -> [u64; LEN]
-    ensures words { length result ≡ LEN }
-    ensures zero { (i : ℕ) → slice_index result i ≡ 0 }
-{
-    [0; LEN]
-}
 
 /// Copies the source symbols among those that are kept, and notes which they are.
 fn copy_heard(esis: &[u16], symbols: &[u8], t: usize, k: u16, heard: &mut [u64], out: &mut [u8])
@@ -35,6 +25,7 @@ fn copy_heard(esis: &[u16], symbols: &[u8], t: usize, k: u16, heard: &mut [u64],
     ensures copied { AreCopied t k k esis.now symbols.now heard.new out.new }
     ensures words { length heard.new ≡ length heard.old }
     ensures count { length out.new ≡ length out.old }
+    ensures bytes { (j : ℕ) → slice_index symbols.now j < 2 ^ 8 }
 {
     for n in 0..usize::from(k) {
         let esi = usize::from(esis[n]);
@@ -79,27 +70,38 @@ fn replay(offered: &Elim, t: usize, symbols: &mut [u8])
     offered.replay(symbols, t);
 }
 
-/// Puts the source symbols of a block that the symbols which are kept determine. These are replayed where they stand.
+/// Puts the source symbols of a block that the symbols which are kept determine. Those that were heard are copied; the
+/// others follow from the kept ones, which are replayed where they stand.
 pub(crate) fn put_sources(
     code: &Code,
     offered: &Elim,
     esis: &[u16],
     t: usize,
     symbols: &mut [u8],
-    row: &mut [u64],
     out: &mut [u8],
 )
     requires of { block.IsOf code.now (kept.block_in t offered.now esis.now symbols.old) }
-    requires room { kept.AreBuffers t offered.now esis.now symbols.old row.old }
+    requires room { kept.AreBuffers t offered.now esis.now symbols.old }
     requires determined { DetermineBlock code.now (solution.esis (kept.pairs_in t esis.now symbols.old (length offered.now.news))) }
     requires out { length out.old ≡ t * offered.now.places }
     ensures sources { AreSources code.now t (kept.pairs_in t esis.now symbols.old (length offered.now.news)) out.new }
     ensures count { length out.new ≡ length out.old }
 {
     let k = code.k();
+    let _rank = offered.rank();
     let mut heard = room::<ROW_WORDS>();
     copy_heard(esis, symbols, t, k, &mut heard, out);
-    let _rank = offered.rank();
+    if are_set(&heard, usize::from(k)) {
+        return;
+    }
     replay(offered, t, symbols);
-    put_others(code, symbols, t, &heard, row, out);
+    let mut row = room::<ROW_WORDS>();
+    put_others(
+        code,
+        symbols,
+        t,
+        &heard,
+        &mut row[..words_for(usize::from(k))],
+        out,
+    );
 }

@@ -1,4 +1,4 @@
-use Rattle.std.proofs.Common.{◌≡◌, ℕ, ◌+◌, ◌*◌, ◌<◌, ◌≤◌, ◌++◌, List, length, take, drop, ap, ap₂, refl, sym, subst, ◌∙◌, arith}
+use Rattle.std.proofs.Common.{◌≡◌, ℕ, ◌+◌, ◌*◌, ◌<◌, ◌≤◌, ◌++◌, List, length, take, drop, ap, refl, sym, subst, ◌∙◌, arith}
 use Rattle.std.proofs.lemmas.Grind.{common_steps}
 use Rattle.mb_bits.specs.BitRow.{row_of}
 use Rattle.mb_elim.specs.Offered.{Offered}
@@ -14,12 +14,10 @@ invariant_of-self c =
     let same = c.in-Determined.ensures.same refl in
     let few = c.self.invariant.few in
     let esis = c.self.invariant.esis_are in
-    let symbols = c.self.invariant.symbols_are in
-    let words = c.self.invariant.words_are in rw same (record {
+    let symbols = c.self.invariant.symbols_are in rw same (record {
       few = few;
       esis_are = esis;
       symbols_are = symbols;
-      words_are = grind (arith, common_steps);
     })
 
 pub index_mut-requires : goal.index_mut-requires
@@ -42,8 +40,8 @@ put_symbol-requires-clause-place c =
     let more : length c.offer.new.self.news ≡ length c.self.inside.offered.news + 1 = grind (arith, common_steps) in
     let within : c.from-place.result < c.self.inside.offered.places = omega arith in
     let room = row_within c.from-t.result c.from-place.result c.self.inside.offered.places within in
-    let long : length c.deref_mut-in-New.result.now ≡ c.self.inside.t * c.self.inside.offered.places =
-    ap (λ (xs : List ℕ). length xs) c.deref_mut-in-New.ensures.value ∙ c.self.invariant.symbols_are in
+    let long : length c.deref_mut.result.now ≡ c.self.inside.t * c.self.inside.offered.places =
+    ap (λ (xs : List ℕ). length xs) c.deref_mut.ensures.value ∙ c.self.invariant.symbols_are in
     let same : c.from-t.result * c.self.inside.offered.places ≡ c.self.inside.t * c.self.inside.offered.places = ap (λ (t : ℕ). t * c.self.inside.offered.places) c.from-t.ensures in
     omega arith
 
@@ -51,8 +49,7 @@ pub returns-in-Determined-clause-determined : goal.returns-in-Determined-clause-
 returns-in-Determined-clause-determined c =
     let k = ap (λ (b : Block). b.k) c.self.view_is ∙ c.requires.of.k in
     let rows = ap (λ (b : Block). b.rows) c.self.view_is ∙ c.requires.of.rows in
-    let same : c.deref.result.now ≡ c.folded_row.new.out = grind (arith, common_steps) in
-    let own = ap₂ row_of k same ∙ c.folded_row.ensures.row in (
+    let own = ap (λ (n : ℕ). row_of n c.folded_row.new.out) k ∙ c.folded_row.ensures.row in (
       λ no. (is_determined c.args.code.now c.self.inside.offered.places c.args.esi c.self.inside.offered.news (esis c.args.self.now.kept) _ k rows own).0
           (c.in-Determined.ensures.determined.0 refl),
       λ d. refl,
@@ -72,8 +69,7 @@ pub returns-in-New-clause-determined : goal.returns-in-New-clause-determined
 returns-in-New-clause-determined c =
     let k = ap (λ (b : Block). b.k) c.self.view_is ∙ c.requires.of.k in
     let rows = ap (λ (b : Block). b.rows) c.self.view_is ∙ c.requires.of.rows in
-    let same : c.deref.result.now ≡ c.folded_row.new.out = grind (arith, common_steps) in
-    let own = ap₂ row_of k same ∙ c.folded_row.ensures.row in (
+    let own = ap (λ (n : ℕ). row_of n c.folded_row.new.out) k ∙ c.folded_row.ensures.row in (
       λ no. absurd (cc no),
       λ d. absurd (cc (c.in-New.ensures.determined.1
           ((is_determined c.args.code.now c.self.inside.offered.places c.args.esi c.self.inside.offered.news (esis c.args.self.now.kept) _ k rows own).1 d))),
@@ -94,7 +90,7 @@ returns-in-New-clause-kept c = λ yes.
     let short : length c.args.bytes.now ≤ c.self.inside.t = let t_is = ap (λ (b : Block). b.t) c.self.view_is in let few_bytes = c.requires.bytes in omega arith in
     let put : c.put_symbol.new.symbols ≡ take (c.self.inside.t * c.from-place.result) c.self.inside.symbols.items
     ++ (filled c.self.inside.t c.args.bytes.now ++ drop (c.self.inside.t * c.from-place.result + c.self.inside.t) c.self.inside.symbols.items) =
-    rw (c.from-t.ensures, c.deref_mut-in-New.ensures.value) at c.put_symbol.ensures in
+    rw (c.from-t.ensures, c.deref_mut.ensures.value) at c.put_symbol.ensures in
     let long : length c.put_symbol.new.symbols ≡ length c.self.inside.symbols.items =
     ap (λ (xs : List ℕ). length xs) put
     ∙ put_length c.self.inside.t (c.self.inside.t * c.from-place.result) c.self.inside.symbols.items c.args.bytes.now (omega arith) short in
@@ -106,7 +102,6 @@ returns-in-New-clause-kept c = λ yes.
 pub returns-in-New-clause-of : goal.returns-in-New-clause-of
 returns-in-New-clause-of c =
     let k = ap (λ (b : Block). b.k) c.self.view_is ∙ c.requires.of.k in
-    let same : c.deref.result.now ≡ c.folded_row.new.out = grind (arith, common_steps) in
     is_of_more c.args.code.now c.args.self.now c.self.inside.offered c.offer.new.self c.self.inside.t c.self.inside.esis.items c.self.inside.symbols.items _ _ _
-    c.self.view_is c.requires.of c.in-New.ensures.places (ap (λ (o : Offered). o.news) (c.in-New.ensures.added c.in-New.n refl)) (ap₂ row_of k same ∙ c.folded_row.ensures.row)
+    c.self.view_is c.requires.of c.in-New.ensures.places (ap (λ (o : Offered). o.news) (c.in-New.ensures.added c.in-New.n refl)) (ap (λ (n : ℕ). row_of n c.folded_row.new.out) k ∙ c.folded_row.ensures.row)
     (returns-in-New-clause-kept c refl)

@@ -1,0 +1,14 @@
+pub mod Lists
+pub mod Testing
+pub mod Solving
+pub mod Rising
+pub mod Keeping
+pub mod Counting
+pub mod Hearing
+pub mod Unknowns
+pub mod Sent
+pub mod CodeLemmas
+pub mod SizeLemmas
+pub mod BytesLemmas
+pub mod ShareLemmas
+pub mod TwoSizes
