@@ -1,41 +1,31 @@
--- What calls do to a block in memory.
-use Rattle.std.proofs.Common.{◌≡◌, ℕ, ◌+◌, ◌-◌, ◌*◌, ◌<◌, ◌≤◌, Bool, true, false, List, ◌++◌, length, take, drop, replicate, refl, sym, ◌∙◌, ap, ap₂, arith, lt-ltb, length-append}
+-- What calls do to a block under Compact No-Code in memory.
+use Rattle.std.proofs.Common.{◌≡◌, ℕ, ◌+◌, ◌-◌, ◌*◌, ◌<◌, ◌≤◌, ◌==◌, Bool, true, false, List, ◌++◌, length, take, drop, replicate, refl, sym, ◌∙◌, ap, arith, lt-ltb, length-append}
 use Rattle.std.specs.List.{concat}
+use Rattle.std.proofs.lemmas.Bool.{eqb-true}
 use Rattle.std.proofs.lemmas.List.{length-replicate}
 use Rattle.mb_bits.specs.BitRow.{bit_in, Flips}
-use Rattle.mb_block.specs.Way.{is_in_range}
-use Rattle.mb_block.specs.Block.{Block, heard_as, hear, filled, is_complete, sources}
+use Rattle.mb_decoder.specs.Block.{filled}
+use Rattle.mb_way.specs.Way.{Way.NoCode}
+use Rattle.mb_way.specs.Heard.{heard_as, hear, is_complete}
+use Rattle.mb_way.specs.Solution.{sources}
+use Rattle.mb_way.specs.declared.heard.Heard.TheVariants.{Kept, Determined}
+use Rattle.mb_way.proofs.Counting.{complete_count}
+use Rattle.mb_way.proofs.Keeping.{length_kept_with}
 use Rattle.mb_block.specs.Buffer.{seen, block_in, IsBuffer}
-use Rattle.mb_block.specs.declared.way.Way.{Way}
-use Rattle.mb_block.specs.declared.way.Way.TheVariants.{NoCode}
-use Rattle.mb_block.specs.declared.heard.Heard.TheVariants.{Kept, Determined}
-use Rattle.mb_block.proofs.KeptLemmas.{same_number, below-end, complete-count, length-with_pair}
 use Rattle.mb_block.proofs.SeenLemmas.{IsPut, seen-put, seen-determined, seen-block, joined-seen}
 
--- the way of a block in memory
-pub way-in : (k t : ℕ) (bytes words : List ℕ) (w : Way) (b : Block) → block_in k t bytes words ≡ b → w ≡ b.way → w ≡ NoCode k
-way-in k t bytes words w b seen_is way = way ∙ ap (λ (b : Block). b.way) (sym seen_is)
+pub heard-determined : (k t : ℕ) (bytes words : List ℕ) (esi : ℕ) → esi < k → bit_in words esi ≡ true → heard_as (NoCode k) (seen k t bytes words) esi ≡ Determined
+heard-determined k t bytes words esi within bit = rw (lt-ltb esi k within, seen-determined k t bytes words esi within, bit) refl
 
--- an ESI that the way has is within the block
-pub within-has : (w : Way) (k esi : ℕ) (has : Bool) → w ≡ NoCode k → has ≡ is_in_range w esi → has ≡ true → esi < k
-within-has w k esi has way is found = below-end esi k (ap (λ w. is_in_range w esi) (sym way) ∙ sym is ∙ found)
-
-pub heard-determined : (k t : ℕ) (bytes words : List ℕ) (esi : ℕ) (w : Way) → w ≡ NoCode k → esi < k → bit_in words esi ≡ true
-    → heard_as w (seen k t bytes words) esi ≡ Determined
-heard-determined k t bytes words esi w way within bit =
-    rw (way, lt-ltb esi k within, seen-determined k t bytes words esi within, bit) refl
-
-pub heard-kept : (k t : ℕ) (bytes words : List ℕ) (esi : ℕ) (w : Way) → w ≡ NoCode k → esi < k → bit_in words esi ≡ false
-    → heard_as w (seen k t bytes words) esi ≡ Kept
-heard-kept k t bytes words esi w way within bit =
-    rw (way, lt-ltb esi k within, seen-determined k t bytes words esi within, bit) refl
+pub heard-kept : (k t : ℕ) (bytes words : List ℕ) (esi : ℕ) → esi < k → bit_in words esi ≡ false → heard_as (NoCode k) (seen k t bytes words) esi ≡ Kept
+heard-kept k t bytes words esi within bit = rw (lt-ltb esi k within, seen-determined k t bytes words esi within, bit) refl
 
 -- a repeat changes nothing
-pub hear-repeat : (k t : ℕ) (bytes words symbol : List ℕ) (esi : ℕ) (w : Way) → w ≡ NoCode k → esi < k → bit_in words esi ≡ true
-    → hear w (seen k t bytes words) (record { esi = esi; symbol = symbol }) ≡ seen k t bytes words
-hear-repeat k t bytes words symbol esi w way within bit = rw (heard-determined k t bytes words esi w way within bit) refl
+pub hear-repeat : (k t : ℕ) (bytes words symbol : List ℕ) (esi : ℕ) → esi < k → bit_in words esi ≡ true
+    → hear (NoCode k) (seen k t bytes words) (record { esi = esi; symbol = symbol }) ≡ seen k t bytes words
+hear-repeat k t bytes words symbol esi within bit = rw (heard-determined k t bytes words esi within bit) refl
 
-length-filled : (t : ℕ) (bytes : List ℕ) → length bytes ≤ t → length (filled t bytes) ≡ t
+pub length-filled : (t : ℕ) (bytes : List ℕ) → length bytes ≤ t → length (filled t bytes) ≡ t
 length-filled t bytes most =
     let both = length-append bytes (replicate (t - length bytes) 0) in
     let zeros = length-replicate {A = ℕ} (t - length bytes) 0 in
@@ -64,24 +54,25 @@ buffer-put k t bytes words new_bytes new_words piece kept place b p same = recor
   bytes_are = same ∙ b.bytes_are;
   words_are = p.flips.words ∙ b.words_are;
   kept_are = ap (λ n. n + 1) b.kept_are
-      ∙ sym (length-with_pair (record { esi = place; symbol = piece }) (seen k t bytes words))
+      ∙ sym (length_kept_with (NoCode k) (record { esi = place; symbol = piece }) (seen k t bytes words))
       ∙ sym (ap length (seen-put k t bytes words new_bytes new_words piece place b.bytes_are p));
 }
 
-pub hear-put : (k t : ℕ) (bytes words new_bytes new_words piece : List ℕ) (kept place : ℕ) (w : Way) → w ≡ NoCode k → IsBuffer k t bytes words kept
+pub hear-put : (k t : ℕ) (bytes words new_bytes new_words piece : List ℕ) (kept place : ℕ) → IsBuffer k t bytes words kept
     → IsPut k t bytes words new_bytes new_words piece place
-    → seen k t new_bytes new_words ≡ hear w (seen k t bytes words) (record { esi = place; symbol = piece })
-hear-put k t bytes words new_bytes new_words piece kept place w way b p =
-    rw (heard-kept k t bytes words place w way p.within p.clear) (seen-put k t bytes words new_bytes new_words piece place b.bytes_are p)
+    → seen k t new_bytes new_words ≡ hear (NoCode k) (seen k t bytes words) (record { esi = place; symbol = piece })
+hear-put k t bytes words new_bytes new_words piece kept place b p =
+    rw (heard-kept k t bytes words place p.within p.clear) (seen-put k t bytes words new_bytes new_words piece place b.bytes_are p)
+
+-- the block is complete where as many symbols are kept as it has
+pub complete-seen : (k t : ℕ) (bytes words : List ℕ) (kept : ℕ) → IsBuffer k t bytes words kept → (kept == k) ≡ is_complete (NoCode k) (seen k t bytes words)
+complete-seen k t bytes words kept b =
+    ap (λ n. n == k) b.kept_are ∙ sym (complete_count (NoCode k) (seen k t bytes words) (seen-block k t bytes words kept b).kept)
 
 -- the source symbols of a block that is complete are its bytes
-pub solved : (k t : ℕ) (bytes words : List ℕ) (kept : ℕ) (w : Way) (b : Block) → IsBuffer k t bytes words kept → block_in k t bytes words ≡ b → w ≡ b.way
-    → is_complete w b.kept ≡ true → concat (sources w b.kept) ≡ bytes
-solved k t bytes words kept w b buffer seen_is way complete =
-    let w_is : w ≡ NoCode k = way-in k t bytes words w b seen_is way in
-    let kept_is : b.kept ≡ seen k t bytes words = ap (λ (b : Block). b.kept) (sym seen_is) in
-    let whole : is_complete (NoCode k) (seen k t bytes words) ≡ true = ap₂ is_complete (sym w_is) (sym kept_is) ∙ complete in
-    let block = seen-block k t bytes words kept buffer in
-    let count = complete-count k t (seen k t bytes words) block.pairs block.rising in
-    ap₂ (λ w kept. concat (sources w kept)) w_is kept_is
-    ∙ joined-seen k t bytes words buffer.bytes_are (same_number _ k (sym count ∙ whole))
+pub solved : (k t : ℕ) (bytes words : List ℕ) (kept : ℕ) → IsBuffer k t bytes words kept → is_complete (NoCode k) (seen k t bytes words) ≡ true
+    → concat (sources (NoCode k) t (seen k t bytes words)) ≡ bytes
+unfolding sources
+solved k t bytes words kept b whole =
+    let all : kept ≡ k = eqb-true kept k (complete-seen k t bytes words kept b ∙ whole) in
+    joined-seen k t bytes words b.bytes_are (sym b.kept_are ∙ all)

@@ -10,15 +10,16 @@ use Rattle.mb_geom.specs.Description.{Description, IsGood, block_sizes, symbols,
 use Rattle.mb_geom.proofs.PartitionLemmas.{le-ceiling-times}
 use Rattle.mb_geom.proofs.SymbolLemmas.{sum-cons, sum-within}
 use Rattle.mb_geom.proofs.LayoutLemmas.{sum-block_sizes}
-use Rattle.mb_block.specs.Block.{Pair, with_pair, esis, heard_as, hear, keep_if, AreRising, IsWay, IsPairOf, IsBlock}
+use Rattle.mb_encoder.specs.Solutions.{Pair, esis}
+use Rattle.mb_way.specs.Way.{Way, Way.NoCode, IsWay}
+use Rattle.mb_way.specs.Determined.{is_determined}
+use Rattle.mb_way.specs.Heard.{with_pair, heard_as, hear, keep_if, AreRising}
+use Rattle.mb_way.specs.declared.heard.Heard.TheVariants.{Kept, Determined}
+use Rattle.mb_way.proofs.Rising.{AreBelow, has}
+use Rattle.mb_way.proofs.SizeLemmas.{sizes-within}
+use Rattle.mb_block.specs.Block.{IsPairOf, IsBlock}
 use Rattle.mb_block.specs.Blocks.{Blocks, no_pairs, nothing_of_file, way_at, kept_at, AreEachBlocks, joined_symbols, pair_from, seen_from, all_seen, blocks_in, AreBuffers}
-use Rattle.mb_block.specs.Way.{is_determined}
-use Rattle.mb_block.specs.declared.way.Way.{Way}
-use Rattle.mb_block.specs.declared.way.Way.TheVariants.{NoCode}
-use Rattle.mb_block.specs.declared.heard.Heard.TheVariants.{Kept, Determined}
-use Rattle.mb_block.proofs.RisingLemmas.{AreBelow, has}
-use Rattle.mb_block.proofs.WayLemmas.{sizes-within}
-use Rattle.mb_block.proofs.SeenLemmas.{passed, passed-rising, passed-below, passed-has, passed-none, passed-length, passed-all, esis-pairs, same-cond, map-cond, more-seen, put, put-here, pair-other, apart, no_bit, place-reach, IsPut}
+use Rattle.mb_block.proofs.SeenLemmas.{pairs-range, passed, passed-rising, passed-below, passed-has, passed-none, passed-length, passed-all, esis-pairs, same-cond, map-cond, more-seen, put, put-here, pair-other, apart, no_bit, place-reach, IsPut}
 
 -- ---- one block, from its first symbol on
 
@@ -57,13 +58,17 @@ pairs-from a k t bytes (e ∷ es) len below =
 block-from : (a k t : ℕ) (bytes words : List ℕ) → IsWay (NoCode k) → 0 < t → (a + k) * t ≤ length bytes
     → IsBlock (record { way = NoCode k; symbol = t; kept = seen_from a k t bytes words })
 unfolding seen_from passed
-block-from a k t bytes words way some len = record {
-  way = way;
-  some = some;
-  few = length-from a k t bytes words;
-  pairs = pairs-from a k t bytes (passed (λ e. bit_in words (a + e)) k 0) len (passed-below (λ e. bit_in words (a + e)) k 0 k (omega arith));
-  rising = subst (AreRising 0) (sym (esis-from a k t bytes words)) (passed-rising (λ e. bit_in words (a + e)) k 0);
-}
+block-from a k t bytes words way some len =
+    let pairs = pairs-from a k t bytes (passed (λ e. bit_in words (a + e)) k 0) len (passed-below (λ e. bit_in words (a + e)) k 0 k (omega arith)) in record {
+      way = way;
+      some = some;
+      kept = record {
+        few = length-from a k t bytes words;
+        range = pairs-range k t (seen_from a k t bytes words) pairs;
+        new = subst (AreRising 0) (sym (esis-from a k t bytes words)) (passed-rising (λ e. bit_in words (a + e)) k 0);
+      };
+      pairs = pairs;
+    }
 
 -- ---- one symbol more
 
@@ -297,7 +302,7 @@ pub same-blocks : (b : Blocks) (sbn : ℕ) (pair : Pair) → heard_as (way_at b 
     → b ≡ record b { kept = set b.kept sbn (hear (way_at b sbn) (kept_at b sbn) pair) }
 same-blocks b sbn pair is =
     sym (ap (λ (kept : List (List Pair)). let r : Blocks = record b { kept = kept } in r)
-    (ap (λ h. set b.kept sbn (keep_if h (kept_at b sbn) pair)) is ∙ set-get_or b.kept sbn []))
+    (ap (λ h. set b.kept sbn (keep_if h (way_at b sbn) (kept_at b sbn) pair)) is ∙ set-get_or b.kept sbn []))
 
 -- and another symbol is kept
 pub more-blocks : (sizes : List ℕ) (t : ℕ) (bytes words new_bytes new_words piece : List ℕ) (sbn at k esi place : ℕ) (b : Blocks) → blocks_in sizes t bytes words ≡ b
@@ -312,7 +317,7 @@ more-blocks sizes t bytes words new_bytes new_words piece sbn at k esi place b v
     let all = all-put sizes (sum sizes) 0 t sbn esi place bytes words new_bytes new_words piece buffers.bytes_are put p.within under there in
     ap (λ (kept : List (List Pair)). let r : Blocks = record { sizes = sizes; symbol = t; kept = kept } in r) all
     ∙ ap (λ (x : Blocks). let r : Blocks = record x { kept = set x.kept sbn (with_pair pair (kept_at x sbn)) } in r) view
-    ∙ sym (ap (λ h. let r : Blocks = record b { kept = set b.kept sbn (keep_if h (kept_at b sbn) pair) } in r) is)
+    ∙ sym (ap (λ h. let r : Blocks = record b { kept = set b.kept sbn (keep_if h (way_at b sbn) (kept_at b sbn) pair) } in r) is)
 
 -- before anything was heard
 pub start-blocks : (d : Description) (sizes : List ℕ) (t : ℕ) (bytes words : List ℕ) (m : ℕ) → sizes ≡ block_sizes d → t ≡ d.symbol → words ≡ replicate m 0

@@ -1,8 +1,5 @@
-pub mod RisingLemmas
-pub mod KeptLemmas
 pub mod SeenLemmas
-pub mod WayLemmas
 pub mod FileLemmas
 pub mod BlockLemmas
 pub mod MissingLemmas
-pub mod LawLemmas
+pub mod RaptorLemmas

@@ -6,14 +6,14 @@ use Rattle.std.proofs.lemmas.List.{append-nil, map-id}
 use Rattle.std.proofs.lemmas.List.FromFn.{filter_of_map_range_with_len_more}
 use Rattle.std.proofs.lemmas.List.Folds.{list_any-append}
 use Rattle.mb_bits.specs.BitRow.{bit_in}
-use Rattle.mb_block.specs.Way.{is_determined, is_block_determined}
-use Rattle.mb_block.specs.Block.{Block, Pair, esis, request, is_usable}
-use Rattle.mb_block.specs.Buffer.{seen, block_in}
-use Rattle.mb_block.specs.declared.way.Way.{Way}
-use Rattle.mb_block.specs.declared.way.Way.TheVariants.{NoCode}
-use Rattle.mb_block.proofs.RisingLemmas.{AreBelow, has}
+use Rattle.mb_encoder.specs.Solutions.{Pair, esis}
+use Rattle.mb_way.specs.Way.{Way.NoCode}
+use Rattle.mb_way.specs.Determined.{is_determined, is_block_determined}
+use Rattle.mb_way.proofs.Rising.{AreBelow, has}
+use Rattle.mb_block.specs.Missing.{request, is_usable}
+use Rattle.mb_block.specs.Buffer.{seen}
+use Rattle.mb_block.specs.Laws.{SourcesSuffice}
 use Rattle.mb_block.proofs.SeenLemmas.{seen-determined}
-use Rattle.mb_block.proofs.BlockLemmas.{way-in}
 
 -- one number more of a range
 pub filter-more : (p : ℕ → Bool) (n : ℕ) → filter p (range_with_len 0 (n + 1)) ≡ filter p (range_with_len 0 n) ++ cond (p n) (n ∷ []) []
@@ -85,17 +85,14 @@ unfolding chosen is_determined
 request-is k kept = chosen-is (esis kept) [] k 0 tt
 
 -- by what calls gave
-pub missing-places : (k t : ℕ) (bytes words read items : List ℕ) (w : Way) (b : Block) → block_in k t bytes words ≡ b → w ≡ b.way → read ≡ words
-    → items ≡ filter (λ e. not (bit_in read e)) (range_with_len 0 k) → items ≡ request w b.kept
+pub missing-places : (k t : ℕ) (bytes words read items : List ℕ) → read ≡ words → items ≡ filter (λ e. not (bit_in read e)) (range_with_len 0 k)
+    → items ≡ request (NoCode k) (seen k t bytes words)
 unfolding is_determined
-missing-places k t bytes words read items w b seen_is way read_is items_are =
-    let w_is : w ≡ NoCode k = way-in k t bytes words w b seen_is way in
-    let kept_is : b.kept ≡ seen k t bytes words = ap (λ (b : Block). b.kept) (sym seen_is) in
+missing-places k t bytes words read items read_is items_are =
     items_are ∙ ap (λ ws. filter (λ e. not (bit_in ws e)) (range_with_len 0 k)) read_is
     ∙ filter-same (λ e. not (bit_in words e)) (λ e. not (has e (esis (seen k t bytes words)))) k 0 k (omega arith)
     (λ e within. ap not (sym (seen-determined k t bytes words e within)))
     ∙ sym (request-is k (seen k t bytes words))
-    ∙ sym (ap₂ request w_is kept_is)
 
 -- ---- all source symbols determine the block
 
@@ -115,9 +112,6 @@ all-range es k (suc n) a is =
     list_any-append (λ e. e == a) es (range_with_len 0 k) ∙ or-both (has a es) (has a (range_with_len 0 k)) (range-has k 0 a a (omega arith) (omega arith)) in
     ap₂ ◌&&◌ here (all-range es k n (a + 1) (omega arith))
 
-pub no_code-usable : (k : ℕ) (kept : List Pair) → is_usable (NoCode k) kept ≡ true
+pub suffice : SourcesSuffice
 unfolding is_block_determined is_determined
-no_code-usable k kept = all-range (esis kept) k k 0 (omega arith)
-
-pub usable-in : (k t : ℕ) (bytes words : List ℕ) (w : Way) (b : Block) → block_in k t bytes words ≡ b → w ≡ b.way → is_usable w b.kept ≡ true
-usable-in k t bytes words w b seen_is way = ap (λ w. is_usable w b.kept) (way-in k t bytes words w b seen_is way) ∙ no_code-usable k b.kept
+suffice k kept = all-range (esis kept) k k 0 (omega arith)

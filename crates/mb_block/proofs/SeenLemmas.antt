@@ -9,11 +9,13 @@ use Rattle.std.proofs.Math.Seq.{drop-append-add}
 use Rattle.std.proofs.Math.ListN.{drop_of_length-le}
 use Rattle.std.proofs.Math.Nat.{mul-le-mul_right}
 use Rattle.mb_bits.specs.BitRow.{bit_in, Flips}
-use Rattle.mb_block.specs.Block.{Pair, with_pair, esis, AreRising, IsPairOf, IsBlock}
-use Rattle.mb_block.specs.Way.{is_determined}
+use Rattle.mb_encoder.specs.Solutions.{Pair, esis}
+use Rattle.mb_way.specs.Way.{Way.NoCode, is_in_range}
+use Rattle.mb_way.specs.Determined.{is_determined}
+use Rattle.mb_way.specs.Heard.{with_pair, AreRising}
+use Rattle.mb_way.proofs.Rising.{AreBelow, has, rising-from, rising-has_before, rising-length}
+use Rattle.mb_block.specs.Block.{IsPairOf, IsBlock}
 use Rattle.mb_block.specs.Buffer.{pair_at, seen, block_in, IsBuffer}
-use Rattle.mb_block.specs.declared.way.Way.TheVariants.{NoCode}
-use Rattle.mb_block.proofs.RisingLemmas.{AreBelow, has, rising-from, rising-has_before, rising-length}
 
 -- the numbers of a range that pass a test
 unfoldable pub passed : (ℕ → Bool) → ℕ → ℕ → List ℕ
@@ -303,15 +305,27 @@ pairs-at k t bytes (e ∷ es) len below =
     let whole : length (take t (drop (e * t) bytes)) ≡ t = omega (arith, length-take t (drop (e * t) bytes)) in
     ((lt-ltb e k below.0, whole), pairs-at k t bytes es len below.1)
 
-pub seen-block : (k t : ℕ) (bytes words : List ℕ) (kept : ℕ) → IsBuffer k t bytes words kept → IsBlock (block_in k t bytes words)
+-- each pair is of an ESI that the block has
+pub pairs-range : (k t : ℕ) (kept : List Pair) → AllByRecursion (IsPairOf (NoCode k) t) kept → AllByRecursion (λ (pair : Pair). is_in_range (NoCode k) pair.esi ≡ true) kept
+pairs-range k t [] are = tt
+pairs-range k t (pair ∷ kept) are = (are.0.0, pairs-range k t kept are.1)
+
+pub seen-pairs : (k t : ℕ) (bytes words : List ℕ) → length bytes ≡ k * t → AllByRecursion (IsPairOf (NoCode k) t) (seen k t bytes words)
 unfolding seen passed
-seen-block k t bytes words kept b = record {
-  way = (b.some, b.most);
-  some = b.symbol;
-  few = length-seen k t bytes words;
-  pairs = pairs-at k t bytes (passed (bit_in words) k 0) b.bytes_are (passed-below (bit_in words) k 0 k (omega arith));
-  rising = subst (AreRising 0) (sym (esis-seen k t bytes words)) (passed-rising (bit_in words) k 0);
-}
+seen-pairs k t bytes words len = pairs-at k t bytes (passed (bit_in words) k 0) len (passed-below (bit_in words) k 0 k (omega arith))
+
+pub seen-rising : (k t : ℕ) (bytes words : List ℕ) → AreRising 0 (esis (seen k t bytes words))
+unfolding passed
+seen-rising k t bytes words = subst (AreRising 0) (sym (esis-seen k t bytes words)) (passed-rising (bit_in words) k 0)
+
+pub seen-block : (k t : ℕ) (bytes words : List ℕ) (kept : ℕ) → IsBuffer k t bytes words kept → IsBlock (block_in k t bytes words)
+seen-block k t bytes words kept b =
+    let pairs = seen-pairs k t bytes words b.bytes_are in record {
+      way = (b.some, b.most);
+      some = b.symbol;
+      kept = record { few = length-seen k t bytes words; range = pairs-range k t (seen k t bytes words) pairs; new = seen-rising k t bytes words };
+      pairs = pairs;
+    }
 
 -- whether a symbol was heard is what its bit says
 pub seen-determined : (k t : ℕ) (bytes words : List ℕ) (place : ℕ) → place < k → is_determined (NoCode k) (esis (seen k t bytes words)) place ≡ bit_in words place

@@ -1,13 +1,13 @@
 -- All blocks of a file whose symbols are each only themselves, and how they stand in memory: the bytes of their symbols
 -- in one piece, block behind block, and a bit for each symbol, set where the symbol was heard.
-use Rattle.std.specs.Prelude.{◌≡◌, ℕ, ◌+◌, ◌*◌, ◌<◌, ◌≤◌, ◌^◌, List, [], ◌∷◌, length, take, drop, map, filter, slice_index, slice_index_or, sum}
+use Rattle.std.specs.Prelude.{◌≡◌, ℕ, ◌+◌, ◌*◌, ◌<◌, ◌≤◌, ◌^◌, List, [], ◌∷◌, length, take, drop, map, filter, slice_index, slice_index_or, sum, ⊤}
 use Rattle.std.specs.List.{range_with_len, concat, AllByRecursion}
 use Rattle.mb_geom.specs.Partition.{ceiling}
 use Rattle.mb_geom.specs.Description.{Description, block_sizes}
 use Rattle.mb_bits.specs.BitRow.{bit_in}
-use Rattle.mb_block.specs.Block.{Pair, IsWay, IsBlock}
-use Rattle.mb_block.specs.declared.way.Way.{Way}
-use Rattle.mb_block.specs.declared.way.Way.TheVariants.{NoCode}
+use Rattle.mb_encoder.specs.Solutions.{Pair}
+use Rattle.mb_way.specs.Way.{Way, Way.NoCode, IsWay}
+use Rattle.mb_block.specs.Block.{IsBlock}
 
 -- blocks of so many symbols, the bytes of a symbol, and of each block the pairs that are kept
 pub record Blocks : Type 0 where
@@ -32,7 +32,7 @@ kept_at b sbn = slice_index_or b.kept sbn []
 
 -- each is a block of its size
 unfoldable pub AreEachBlocks : ℕ → List ℕ → List (List Pair) → Type 0
-AreEachBlocks t [] [] = Unit {0}
+AreEachBlocks t [] [] = ⊤
 AreEachBlocks t [] (kept ∷ others) = ⊥
 AreEachBlocks t (k ∷ sizes) [] = ⊥
 AreEachBlocks t (k ∷ sizes) (kept ∷ others) = IsBlock (record { way = NoCode k; symbol = t; kept = kept }) × AreEachBlocks t sizes others

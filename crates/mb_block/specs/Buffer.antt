@@ -4,8 +4,9 @@ use Rattle.std.specs.Prelude.{◌≡◌, ℕ, ◌*◌, ◌<◌, ◌≤◌, List,
 use Rattle.std.specs.List.{range_with_len}
 use Rattle.mb_geom.specs.Partition.{ceiling}
 use Rattle.mb_bits.specs.BitRow.{bit_in}
-use Rattle.mb_block.specs.Block.{Block, Pair}
-use Rattle.mb_block.specs.declared.way.Way.TheVariants.{NoCode}
+use Rattle.mb_encoder.specs.Solutions.{Pair}
+use Rattle.mb_way.specs.Way.{Way.NoCode}
+use Rattle.mb_block.specs.Block.{Block}
 
 -- the symbol of t bytes at its place among the bytes
 abbrev pub pair_at : ℕ → List ℕ → ℕ → Pair

@@ -1,5 +1,7 @@
-pub mod Way
 pub mod Block
+pub mod Missing
 pub mod Buffer
 pub mod Blocks
+pub mod Raptor
+pub mod Seen
 pub mod Laws

@@ -1,76 +1,72 @@
-ghost use Rattle.std.specs.Prelude.{◌≡◌, ℕ, ◌+◌, ◌*◌, ◌<◌, ◌≤◌, ◌++◌, length, take, drop, filter, not, true, IfOk, IfErr, OnOk};
-ghost use Rattle.std.specs.List.{range_with_len};
-ghost use Rattle.mb_bits.specs.BitRow.{bit_in};
-ghost use Rattle.mb_block.specs.declared.fault.MissFault.TheVariants as fault;
-ghost use Rattle.mb_block.specs.Block.{filled};
+ghost use Rattle.std.specs.Prelude.{◌≡◌, ℕ, ◌+◌, ◌*◌, ◌<◌, ◌≤◌, length, true, IfOk};
 
-use crate::fault::MissFault;
-use crate::heard::Heard;
-use crate::symbol::put_symbol;
-use crate::way::Way;
+use crate::no_code::NoCodeBlock;
+use crate::raptor::RaptorBlock;
 use mb_base::{Gate, Memory};
-use mb_bits::{flip_bit, has_bit, words_for};
+use mb_decoder::Decoder;
+use mb_way::{Heard, Way};
 use std::alloc::Global;
 use std::marker::Model;
 use std::thread::Threads;
 
-/// A block as far as it was heard. A contract sees it as a `Block`.
+/// A block by how its symbols follow from each other.
+#[derive(Drop)]
+pub(crate) enum Kind {
+    /// Each is only itself.
+    NoCode(NoCodeBlock),
+    /// They are sums.
+    Raptor(RaptorBlock),
+}
+
+/// A block as far as it was heard, under Compact No-Code (RFC 3695) or under Raptor (RFC 5053). A contract sees it as a
+/// `Block`.
 #[derive(Drop)]
 pub struct BlockRx {
-    /// The number of source symbols.
-    k: u32,
-    /// The bytes of a symbol.
-    symbol: u16,
-    /// The bytes of the source symbols in order, where they were heard.
-    symbols: Vec<u8>,
-    /// A bit for each source symbol, set where it was heard.
-    heard: Vec<u64>,
-    /// How many were heard.
-    kept: u32,
+    kind: Kind,
 }
 
 impl Model for BlockRx {
     ghost use Rattle.mb_block.specs.Block.{Block};
+    ghost use Rattle.mb_block.specs.Seen.{block_seen};
 
     ghost Value = { Block };
 
-    ghost use Rattle.mb_block.specs.Buffer.{block_in, IsBuffer};
-
-    ghost view = { λ b. block_in b.k b.symbol b.symbols.items b.heard.items };
-
-    ghost invariant = { λ b. IsBuffer b.k b.symbol b.symbols.items b.heard.items b.kept };
+    ghost view = { λ b. block_seen b.kind };
 }
 
 impl BlockRx {
     ghost use Rattle.std.specs.List.{concat};
-    ghost use Rattle.mb_block.specs.Way.{size_of};
-    ghost use Rattle.mb_block.specs.Block.{IsWay, IsBlock, nothing_of, heard_as, hear, is_complete, sources, request, is_usable, IsMissFault, buffer_of};
+    ghost use Rattle.mb_decoder.specs.Block.{filled};
+    ghost use Rattle.mb_way.specs.Way.{size_of};
+    ghost use Rattle.mb_way.specs.Heard.{heard_as, hear, is_complete};
+    ghost use Rattle.mb_way.specs.Solution.{sources};
+    ghost use Rattle.mb_block.specs.Block.{IsBlock, nothing_of, buffer_of};
 
     /// A block of which nothing was heard, of symbols of `symbol` bytes. All memory that it needs is taken here:
     /// `Memory` where there is none.
-    pub fn start(alloc: Global, way: &Way, symbol: u16) -> Result<BlockRx, Memory>
-        requires way { IsWay way.now }
-        requires symbol { 0 < symbol }
-        ensures { IfOk result (λ b. b ≡ nothing_of way.now symbol) }
+    pub fn start(alloc: Global, way: Way, symbol: u16) -> Result<BlockRx, Memory>
+        requires { 0 < symbol }
+        ensures { IfOk result (λ b. b ≡ nothing_of way symbol) }
     {
-        let k = way.size();
-        let symbols = vec![in alloc; 0; k as usize * usize::from(symbol)]?;
-        let heard = vec![in alloc; 0; words_for(k as usize)]?;
-        Ok(BlockRx {
-            k,
-            symbol,
-            symbols,
-            heard,
-            kept: 0,
-        })
+        let _k = way.size();
+        let kind = match way.code() {
+            None => Kind::NoCode(NoCodeBlock::start(alloc, way.size(), symbol)?),
+            Some(code) => {
+                let decoder = Decoder::start(alloc, code, symbol)?;
+                Kind::Raptor(RaptorBlock::of(way, decoder))
+            }
+        };
+        Ok(BlockRx { kind })
     }
 
-    /// The way of the block.
-    pub fn way(&self) -> Way
-        ensures exact { result ≡ self.now.way }
-        ensures within { IsWay result }
+    /// The number of source symbols of the block (K).
+    pub fn size(&self) -> u32
+        ensures { result ≡ size_of self.now.way }
     {
-        Way::NoCode { k: self.k }
+        match &self.kind {
+            Kind::NoCode(block) => block.size(),
+            Kind::Raptor(block) => block.size(),
+        }
     }
 
     /// The length of a symbol in bytes.
@@ -78,7 +74,10 @@ impl BlockRx {
         ensures exact { result ≡ self.now.symbol }
         ensures some { 0 < result }
     {
-        self.symbol
+        match &self.kind {
+            Kind::NoCode(block) => block.symbol(),
+            Kind::Raptor(block) => block.symbol(),
+        }
     }
 
     /// How many symbols are kept.
@@ -87,109 +86,64 @@ impl BlockRx {
         ensures most { result ≤ size_of self.now.way }
         ensures block { IsBlock self.now }
     {
-        self.kept
+        match &self.kind {
+            Kind::NoCode(block) => block.kept(),
+            Kind::Raptor(block) => block.kept(),
+        }
     }
 
     /// How many source symbols more than the kept ones the block has.
     pub fn missing_count(&self) -> u32
         ensures { result + length self.now.kept ≡ size_of self.now.way }
     {
-        self.k - self.kept
+        self.size() - self.kept()
     }
 
     /// Whether the symbols that are kept determine the block.
     pub fn is_complete(&self) -> bool
         ensures { result ≡ is_complete self.now.way self.now.kept }
     {
-        self.kept == self.k
+        match &self.kind {
+            Kind::NoCode(block) => block.is_complete(),
+            Kind::Raptor(block) => block.is_complete(),
+        }
     }
 
     /// The bytes of its memory.
     pub fn buffered(&self) -> u64
         ensures { result ≡ buffer_of self.now.way self.now.symbol }
     {
-        u64::from(self.k) * u64::from(self.symbol) + 8 * words_for(self.k as usize) as u64
+        match &self.kind {
+            Kind::NoCode(block) => block.buffered(),
+            Kind::Raptor(block) => block.buffered(),
+        }
     }
 
     /// Hears a symbol, which may lack bytes at its end: they are zeros (RFC 3926 section 5.1.2). It takes no memory.
-    pub fn hear(&mut self, way: &Way, esi: u16, bytes: &[u8]) -> Heard
-        requires way { way.now ≡ self.old.way }
-        requires bytes { length bytes.now ≤ self.old.symbol }
-        ensures heard { result ≡ heard_as way.now self.old.kept esi }
-        ensures block { self.new ≡ record self.old { kept = hear way.now self.old.kept (record { esi = esi; symbol = filled self.old.symbol bytes.now }) } }
+    pub fn hear(&mut self, esi: u16, bytes: &[u8]) -> Heard
+        requires { length bytes.now ≤ self.old.symbol }
+        ensures heard { result ≡ heard_as self.old.way self.old.kept esi }
+        ensures block { self.new ≡ record self.old { kept = hear self.old.way self.old.kept (record { esi = esi; symbol = filled self.old.symbol bytes.now }) } }
     {
-        if !way.has(esi) {
-            return Heard::OutOfRange;
+        match &mut self.kind {
+            Kind::NoCode(block) => block.hear(esi, bytes),
+            Kind::Raptor(block) => block.hear(esi, bytes),
         }
-        let place = usize::from(esi);
-        if has_bit(&self.heard, place) {
-            return Heard::Determined;
-        }
-        let symbol = usize::from(self.symbol);
-        let at = place * symbol;
-        put_symbol(&mut self.symbols, at, symbol, bytes);
-        flip_bit(&mut self.heard, place);
-        self.kept += 1;
-        Heard::Kept
     }
 
-    /// The ESIs of the source symbols to ask for, by rising ESI: each that is determined neither by the symbols that
-    /// are kept nor together with those before it in the list.
-    ///
-    /// # Errors
-    ///
-    /// [`MissFault::Unusable`] where the symbols that are kept do not determine the block together with all its source
-    /// symbols: never under Compact No-Code. [`MissFault::Memory`] where there is no room for the list.
-    pub fn missing(&self, alloc: Global, way: &Way) -> Result<Vec<u16>, MissFault>
-        requires { way.now ≡ self.now.way }
-        ensures missing { IfOk result (λ v. v.items ≡ request way.now self.now.kept) }
-        ensures usable { OnOk result (is_usable way.now self.now.kept ≡ true) }
-        ensures fault { IfErr result (IsMissFault way.now self.now.kept) }
-    {
-        let most = self.missing_count();
-        clear_places(alloc, &self.heard, self.k, most as usize)
-    }
-
-    /// Writes the source symbols of a block that is complete. The gate and the workers are not used where the
-    /// symbols need no solving.
-    pub fn solve<R: Threads + Sync, G: Gate>(
-        &mut self,
-        rt: &R,
-        way: &Way,
-        workers: u32,
-        gate: &G,
-        out: &mut [u8],
-    )
-        requires way { way.now ≡ self.old.way }
-        requires complete { is_complete way.now self.old.kept ≡ true }
+    /// Writes the source symbols of a block that is complete. One worker solves it, the caller's own, and the gate is
+    /// not entered.
+    pub fn solve<R: Threads + Sync, G: Gate>(self, rt: &R, workers: u32, gate: &G, out: &mut [u8])
+        requires complete { is_complete self.way self.kept ≡ true }
         requires workers { (1 ≤ workers) × (workers ≤ 64) }
-        requires out { length out.old ≡ size_of way.now * self.old.symbol }
-        ensures sources { out.new ≡ concat (sources way.now self.old.kept) }
-        ensures block { self.new ≡ self.old }
+        requires out { length out.old ≡ size_of self.way * self.symbol }
+        ensures { out.new ≡ concat (sources self.way self.symbol self.kept) }
     {
-        out.copy_from_slice(&self.symbols);
-    }
-}
-
-/// The places that are not set, of so many, with room for so many of them taken first.
-fn clear_places(
-    alloc: Global,
-    words: &[u64],
-    count: u32,
-    most: usize,
-) -> Result<Vec<u16>, MissFault>
-    requires few { count ≤ 65536 }
-    requires room { count ≤ 64 * length words.now }
-    ensures places { IfOk result (λ v. v.items ≡ filter (λ e. not (bit_in words.now e)) (range_with_len 0 count)) }
-    ensures memory { IfErr result (λ f. f ≡ fault.Memory) }
-{
-    let mut places = Vec::with_capacity(alloc, most)?;
-    for place in 0..count {
-        if !has_bit(words, place as usize) {
-            places.push(place as u16)?;
+        match self.kind {
+            Kind::NoCode(block) => block.solve(out),
+            Kind::Raptor(block) => block.solve(out),
         }
     }
-    Ok(places)
 }
 
 // Blocks are sent to workers and read by several at once, so it is checked here that they can be.

@@ -1,11 +1,12 @@
 ghost use Rattle.std.specs.Prelude.{◌≡◌, ℕ, ◌+◌, ◌*◌, ◌<◌, ◌≤◌, ◌^◌, length, map, slice_set, IfOk};
-ghost use Rattle.mb_block.specs.Block.{filled, heard_as, hear};
+ghost use Rattle.mb_decoder.specs.Block.{filled};
+ghost use Rattle.mb_way.specs.Heard.{heard_as, hear};
 
-use crate::heard::Heard;
 use crate::symbol::put_symbol;
 use mb_base::Memory;
 use mb_bits::{flip_bit, has_bit, words_for};
 use mb_geom::{Desc, Parts};
+use mb_way::Heard;
 use std::alloc::Global;
 use std::marker::Model;
 

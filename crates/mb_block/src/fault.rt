@@ -5,13 +5,6 @@ use std::alloc::{AllocError, AllocFailed};
 use std::error::Error;
 use std::fmt;
 
-/// Why a block has no way.
-#[derive(Clone, Copy, Debug, PartialEq, Eq)]
-pub enum CodeFault {
-    /// There is no row of Raptor's tables for blocks of so many symbols.
-    NoRow(u32),
-}
-
 /// Why it is not known which symbols to ask for.
 #[derive(Clone, Copy, Debug, PartialEq, Eq)]
 pub enum MissFault {
@@ -21,16 +14,6 @@ pub enum MissFault {
     /// Want of memory.
     Memory,
 }
-
-impl fmt::Display for CodeFault {
-    fn fmt<W: fmt::Write>(&self, f: &mut fmt::Formatter<W>) -> fmt::Result {
-        match self {
-            CodeFault::NoRow(k) => write!(f, "the tables have no row for blocks of {k} symbols"),
-        }
-    }
-}
-
-impl Error for CodeFault {}
 
 impl fmt::Display for MissFault {
     fn fmt<W: fmt::Write>(&self, f: &mut fmt::Formatter<W>) -> fmt::Result {

@@ -1,13 +1,7 @@
-ghost use Rattle.mb_block.specs.Laws.{KeptIsOneMore, CompleteByCount, SourcesSuffice, SourcesAreSent};
+ghost use Rattle.mb_block.specs.Laws.{SourcesSuffice};
 
-/// The laws of blocks. It does nothing.
-///
-/// A symbol that is kept makes the kept ones one more. Under Compact No-Code a block is complete exactly where as many
-/// symbols are kept as it has, all its source symbols determine it, and where it is complete its source symbols are
-/// those that were sent, in whatever order they were heard, and however often.
-pub fn blocks_are_as_sent()
-    ensures kept { KeptIsOneMore }
-    ensures complete { CompleteByCount }
-    ensures usable { SourcesSuffice }
-    ensures sent { SourcesAreSent }
+/// The law of what is asked for: under Compact No-Code all source symbols determine a block, whatever is kept of it. It
+/// does nothing.
+pub fn source_symbols_suffice()
+    ensures { SourcesSuffice }
 {}

@@ -1,5 +1,5 @@
 ghost use Rattle.std.specs.Prelude.{◌≡◌, ℕ, ◌+◌, ◌≤◌, ◌++◌, length, take, drop};
-ghost use Rattle.mb_block.specs.Block.{filled};
+ghost use Rattle.mb_decoder.specs.Block.{filled};
 
 /// Copies a symbol to its place, with zeros for the bytes that it lacks.
 pub(crate) fn put_symbol(symbols: &mut [u8], at: usize, symbol: usize, bytes: &[u8])

@@ -1,5 +1,5 @@
 -- What handing a ready life out gives.
-use Rattle.std.specs.Prelude.{◌≡◌, ℕ, Bool, true, false, List, Option, Some}
+use Rattle.std.specs.Prelude.{◌≡◌, ℕ, Bool, true, false, List, [], Option, Some}
 use Rattle.md5.specs.Md5.{md5}
 use Rattle.mb_life.specs.Life.{Life, has_digest, bytes_of, is_damaged}
 use Rattle.mb_life.specs.declared.taken.Taken.{Taken}
@@ -19,3 +19,8 @@ IsJudged given at bytes (Damaged expected found) = (has_digest given bytes ≡ f
 abbrev pub is_file : Taken → Bool
 is_file (File location bytes) = true
 is_file (Damaged given found) = false
+
+-- A life of which nothing is kept is judged: where its bytes are the file, it has no block any more.
+abbrev pub settled : Bool → Life → Life
+settled true life = record life { ways = []; kept = []; done = true }
+settled false life = life

@@ -7,5 +7,6 @@ mod life;
 mod life_tests;
 mod taken;
 
-pub use life::{Life, News, has_ways};
+pub use life::Life;
+pub use mb_file::News;
 pub use taken::Taken;

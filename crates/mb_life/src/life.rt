@@ -1,38 +1,22 @@
-ghost use Rattle.std.specs.Prelude.{◌≡◌, ℕ, ◌+◌, ◌-◌, ◌*◌, ◌<◌, ◌≤◌, ◌^◌, ◌==◌, ◌&&◌, not, if◌then◌else◌, true, false, [], length, take, map, slice_index_or, slice_set, IfOk, IfSome, OnOk, OnErr};
+ghost use Rattle.std.specs.Prelude.{◌≡◌, ℕ, ◌+◌, ◌-◌, ◌<◌, ◌≤◌, ◌^◌, if◌then◌else◌, true, false, length, IfOk, OnOk, OnErr};
 ghost use Rattle.md5.specs.Md5.{md5};
 ghost use Rattle.mb_geom.specs.Partition.{ceiling};
-ghost use Rattle.mb_geom.specs.Description.{IsGood, block_count, plain, equations};
-ghost use Rattle.mb_block.specs.Blocks.{way_at, kept_at, AreWhole};
-ghost use Rattle.mb_life.specs.Life.{has_ways, ways, start_life, prolong, pairs_from, hear_pairs, kept_in, has_digest, is_wrongly_empty, is_ready, missing_in, missing, held, hand_out};
-ghost use Rattle.mb_life.specs.Hearing.{CanHear, hear_payload, kept_of, heard_in};
-ghost use Rattle.mb_life.specs.LifeView.{kept_seen, symbols_in, IsFileOf};
-ghost use Rattle.mb_life.specs.Taking.{IsTaken, IsJudged, is_file};
+ghost use Rattle.mb_geom.specs.Description.{plain, equations};
+ghost use Rattle.mb_way.specs.Ways.{AreWaysOf};
+ghost use Rattle.mb_file.specs.File.{nothing_kept};
+ghost use Rattle.mb_life.specs.Life.{start_life, prolong, kept_in, has_digest, is_wrongly_empty, is_ready, missing, held, hand_out};
+ghost use Rattle.mb_life.specs.Hearing.{CanHear, hear_payload};
+ghost use Rattle.mb_life.specs.Taking.{IsTaken, IsJudged, is_file, settled};
 
 use crate::taken::Taken;
 use mb_base::{Bytes, Gate, Memory};
-use mb_block::{BlocksRx, Heard};
-use mb_geom::{Desc, Scheme};
+use mb_file::{FileRx, News};
+use mb_geom::Desc;
+use mb_way::Ways;
 use md5::{Digest, Md5};
 use std::alloc::Global;
 use std::marker::Model;
 use std::thread::Threads;
-
-/// Whether each block of the file has a way, so that a life of it can start.
-pub fn has_ways(desc: &Desc) -> bool
-    ensures { result ≡ has_ways desc.now }
-{
-    match desc.scheme() {
-        Scheme::NoCode { .. } => true,
-        Scheme::Raptor { .. } => desc.blocks() == 0,
-    }
-}
-
-/// What hearing symbols of a block did: how many were kept, and how many the kept ones determined.
-#[derive(Clone, Copy)]
-pub struct News {
-    pub kept: u32,
-    pub determined: u32,
-}
 
 /// One TOI under one description, and what was heard of its file. A contract sees the life of the definitions.
 #[derive(Drop)]
@@ -41,10 +25,8 @@ pub struct Life {
     desc: Desc,
     /// The NTP second up to which it stands.
     expires: u64,
-    /// What was heard of its blocks: nothing before the first symbol, and none once the file was handed out.
-    file: Option<BlocksRx>,
-    /// How many symbols are missing of a file that was not handed out.
-    missing: u64,
+    /// Its blocks as far as they were heard, and none once the file was handed out.
+    file: FileRx,
     done: bool,
 }
 
@@ -53,114 +35,11 @@ impl Model for Life {
 
     ghost Value = { Life };
 
-    ghost use Rattle.mb_life.specs.LifeView.{kept_seen, Stands};
+    ghost use Rattle.mb_life.specs.LifeView.{Stands};
 
-    ghost view = { λ l. record { toi = l.toi; desc = l.desc; expires = l.expires; kept = kept_seen l.desc l.file; done = l.done } };
+    ghost view = { λ l. record { toi = l.toi; desc = l.desc; expires = l.expires; ways = l.file.ways; kept = l.file.kept; done = l.done } };
 
-    ghost invariant = { λ l. Stands l.desc l.file l.missing l.done };
-}
-
-/// How many symbols are kept more.
-fn kept_of(heard: Heard) -> u32
-    ensures { result ≡ kept_of heard }
-{
-    match heard {
-        Heard::Kept => 1,
-        Heard::Determined | Heard::OutOfRange => 0,
-    }
-}
-
-/// Hears so many symbols of a payload in a block, and answers how many were kept.
-fn hear_run(
-    file: &mut BlocksRx,
-    sbn: u16,
-    symbol: u16,
-    esi: u16,
-    count: usize,
-    payload: &[u8],
-) -> u32
-    requires whole { AreWhole file.old }
-    requires block { sbn < length file.old.sizes }
-    requires symbol { file.old.symbol ≡ symbol }
-    requires within { esi + count ≤ 65536 }
-    ensures blocks { file.new ≡ record file.old { kept = slice_set file.old.kept sbn (hear_pairs (way_at file.old sbn) (kept_at file.old sbn) (pairs_from count symbol esi payload.now)) } }
-    ensures kept { result + length (kept_at file.old sbn) ≡ length (kept_at file.new sbn) }
-    ensures few { result ≤ count }
-    ensures whole { AreWhole file.new }
-{
-    let symbol = usize::from(symbol);
-    let mut next = usize::from(esi);
-    let mut left = count;
-    let mut rest = payload;
-    let mut kept = 0;
-    while left > 0 {
-        let (bytes, others) = rest.split_at(symbol.min(rest.len()));
-        kept += kept_of(file.hear(sbn, next as u16, bytes));
-        rest = others;
-        next += 1;
-        left -= 1;
-    }
-    kept
-}
-
-/// Takes the blocks of a file out of their place, or starts them where nothing was heard.
-fn take_file(alloc: Global, file: &mut Option<BlocksRx>, desc: &Desc) -> Result<BlocksRx, Memory>
-    requires file { IfSome file.old (IsFileOf desc.now) }
-    ensures file { IfOk result (IsFileOf desc.now) }
-    ensures kept { IfOk result (λ f. f.kept ≡ kept_seen desc.now file.old) }
-    ensures refused { OnErr result (file.new ≡ file.old) }
-{
-    match file.take() {
-        Some(blocks) => Ok(blocks),
-        None => BlocksRx::start(alloc, desc),
-    }
-}
-
-/// Hears the symbols of a payload in a block of a file, whose blocks are started where nothing was heard.
-fn hear_in(
-    alloc: Global,
-    file: &mut Option<BlocksRx>,
-    desc: &Desc,
-    sbn: u16,
-    esi: u16,
-    payload: &[u8],
-) -> Result<News, Memory>
-    requires file { IfSome file.old (IsFileOf desc.now) }
-    requires block { sbn < block_count desc.now }
-    requires some { 0 < desc.now.symbol }
-    requires within { esi + ceiling (length payload.now) desc.now.symbol ≤ 65536 }
-    ensures file { OnOk result (IfSome file.new (IsFileOf desc.now)) }
-    ensures heard { OnOk result (kept_seen desc.now file.new ≡ heard_in desc.now sbn esi payload.now (kept_seen desc.now file.old)) }
-    ensures kept { IfOk result (λ n. n.kept + length (slice_index_or (kept_seen desc.now file.old) sbn []) ≡ length (slice_index_or (kept_seen desc.now file.new) sbn [])) }
-    ensures determined { IfOk result (λ n. n.determined ≡ ceiling (length payload.now) desc.now.symbol - n.kept) }
-    ensures missing { IfOk result (λ n. missing_in (ways desc.now) (kept_seen desc.now file.new) + n.kept ≡ missing_in (ways desc.now) (kept_seen desc.now file.old)) }
-    ensures block { OnOk result (sbn < length (kept_seen desc.now file.old)) }
-    ensures refused { OnErr result (file.new ≡ file.old) }
-{
-    let mut blocks = take_file(alloc, file, desc)?;
-    let symbol = desc.symbol();
-    let count = payload.len().div_ceil(usize::from(symbol));
-    let kept = hear_run(&mut blocks, sbn, symbol, esi, count, payload);
-    *file = Some(blocks);
-    Ok(News {
-        kept,
-        determined: count as u32 - kept,
-    })
-}
-
-/// The first bytes of the source symbols of a file, each of which was heard.
-fn file_bytes(alloc: Global, file: Option<BlocksRx>, most: usize) -> Vec<u8>
-    requires { IfSome file (λ f. map length f.kept ≡ f.sizes) }
-    ensures { result.items ≡ take most (symbols_in file) }
-{
-    match file {
-        Some(blocks) => {
-            let mut bytes = blocks.into_bytes();
-            bytes.truncate(most);
-            bytes
-        }
-        None => Vec::new(alloc),
-    }
+    ghost invariant = { λ l. Stands l.desc l.file l.done };
 }
 
 /// Whether bytes have this digest, where one is given.
@@ -216,19 +95,19 @@ fn is_file(taken: &Taken) -> bool
 }
 
 impl Life {
-    /// A life of which nothing was heard. It takes no memory: many lives may be described whose symbols never come.
-    pub fn start(expires: u64, toi: u128, desc: Desc) -> Life
-        requires { has_ways desc ≡ true }
-        ensures { result ≡ start_life expires toi desc }
+    /// A life of which nothing was heard, whose blocks have these ways. It takes no memory: many lives may be described
+    /// whose symbols never come.
+    pub fn start(expires: u64, toi: u128, desc: Desc, ways: Ways) -> Life
+        requires { AreWaysOf desc ways }
+        ensures { result ≡ start_life expires toi desc ways }
     {
         let _length = desc.length();
-        let missing = desc.symbols();
+        let file = FileRx::new(&desc, ways);
         Life {
             toi,
             desc,
             expires,
-            file: None,
-            missing,
+            file,
             done: false,
         }
     }
@@ -242,7 +121,8 @@ impl Life {
 
     /// The description of its file.
     pub fn desc(&self) -> &Desc
-        ensures { result.now ≡ self.now.desc }
+        ensures exact { result.now ≡ self.now.desc }
+        ensures ways { self.now.done ≡ false → AreWaysOf self.now.desc self.now.ways }
     {
         &self.desc
     }
@@ -269,7 +149,7 @@ impl Life {
     }
 
     /// Hears the symbols of a payload in a block, the first of which has this ESI. It takes memory only for the first
-    /// symbol of all, and then for the whole file. After `Memory` it is as before.
+    /// symbol of a block or of the file. After `Memory` it is as before.
     pub fn hear(
         &mut self,
         alloc: Global,
@@ -284,28 +164,29 @@ impl Life {
         ensures determined { IfOk result (λ n. n.determined ≡ ceiling (length payload.now) self.old.desc.symbol - n.kept) }
         ensures refused { OnErr result (self.new ≡ self.old) }
     {
-        let news = hear_in(alloc, &mut self.file, &self.desc, sbn, esi, payload)?;
-        self.missing -= u64::from(news.kept);
-        Ok(news)
+        self.file.hear(alloc, &self.desc, sbn, esi, payload)
     }
 
     /// How many symbols of its blocks are not determined. A life that was handed out misses none.
     pub fn missing(&self) -> u64
         ensures { result ≡ missing self.now }
     {
-        self.missing
+        if self.done {
+            return 0;
+        }
+        self.file.missing()
     }
 
-    /// The bytes of the buffers of its symbols: those of all symbols, once one of them is kept.
+    /// The bytes of the buffers of its symbols and of their equations.
     pub fn buffered(&self) -> u64
         ensures most { result ≤ (if self.now.done then 0 else plain self.now.desc + equations self.now.desc) }
         ensures least { held self.now ≤ result }
-        ensures small { result ≤ 2 ^ 30 }
+        ensures small { result ≤ 2 ^ 50 }
     {
-        match &self.file {
-            Some(blocks) => blocks.buffered(),
-            None => 0,
+        if self.done {
+            return 0;
         }
+        self.file.buffered(&self.desc)
     }
 
     /// Hands the file out, or finds it damaged, and then keeps nothing. After `Memory` the life is as before. The gate
@@ -324,20 +205,23 @@ impl Life {
         ensures refused { OnErr result (self.new ≡ self.old) }
     {
         let location = Bytes::from_vec(Vec::from_slice(alloc, self.desc.location())?);
-        Ok(self.settle(alloc, location))
+        let bytes = self.file.take(rt, alloc, &self.desc, workers, gate)?;
+        Ok(self.settle(location, bytes))
     }
 
-    /// Hands the bytes out that follow from its symbols, or finds them damaged, and keeps nothing.
-    fn settle(&mut self, alloc: Global, location: Bytes) -> Taken
-        requires ready { is_ready self.old ≡ true }
-        requires location { location ≡ self.old.desc.location }
-        ensures taken { IsTaken self.old result }
-        ensures left { self.new ≡ hand_out self.old }
+    /// Judges the bytes that followed from its symbols, none of which is kept any more. Where they are the file, it is
+    /// done.
+    fn settle(&mut self, location: Bytes, bytes: Vec<u8>) -> Taken
+        requires live { self.old.done ≡ false }
+        requires kept { self.old.kept ≡ nothing_kept self.old.ways }
+        ensures judged { IsJudged self.old.desc.md5 location bytes.items result }
+        ensures left { self.new ≡ settled (is_file result) self.old }
     {
-        let bytes = file_bytes(alloc, self.file.take(), self.desc.length() as usize);
         let taken = judge(self.desc.md5(), location, bytes);
-        self.done = is_file(&taken);
-        self.missing = if self.done { 0 } else { self.desc.symbols() };
+        if is_file(&taken) {
+            self.file.forget();
+            self.done = true;
+        }
         taken
     }
 
@@ -345,15 +229,8 @@ impl Life {
     pub fn is_ready(&self) -> bool
         ensures { result ≡ is_ready self.now }
     {
-        is_ready_with(&self.desc, self.done, self.missing)
+        !self.done && !is_wrongly_empty(&self.desc) && self.file.missing() == 0
     }
-}
-
-/// Whether a file is ready that was not handed out yet, of which so many symbols are missing.
-fn is_ready_with(desc: &Desc, done: bool, missing: u64) -> bool
-    ensures { result ≡ (not done && (not (is_wrongly_empty desc.now) && (missing == 0))) }
-{
-    !done && !is_wrongly_empty(desc) && missing == 0
 }
 
 // Several workers solve blocks of a life at once, so it is checked here that it can be sent and shared.

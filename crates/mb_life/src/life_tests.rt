@@ -1,7 +1,9 @@
 //! Lives that are heard in any order, damaged, and empty.
-use crate::{Life, Taken, has_ways};
+use crate::{Life, Taken};
 use mb_base::{Bytes, OpenGate};
 use mb_geom::{Desc, DescParts, Scheme};
+use mb_tables::Tables;
+use mb_way::Codes;
 use std::alloc::Global;
 use std::process::Abort;
 use std::test::Fail;
@@ -41,8 +43,10 @@ fn started_by(
         md5,
     };
     let desc = Desc::new(parts).expect(rt, "a good file");
-    assert!(rt; has_ways(&desc));
-    Life::start(100, 5, desc)
+    let mut codes = Codes::new(alloc, Tables::none(alloc).expect(rt, "memory"));
+    assert!(rt; codes.has_ways(&desc));
+    let ways = codes.ways(alloc, &desc).expect(rt, "memory");
+    Life::start(100, 5, desc, ways)
 }
 
 /// Hears a payload, and says how many symbols were kept, determined, and are missing.

@@ -1,81 +1,62 @@
--- The descriptions that a text of an FDT Instance gives are good, whatever their locations and digests.
-use Rattle.std.proofs.Common.{◌≡◌, ℕ, ◌^◌, ◌<◌, ◌||◌, Bool, true, false, List, [], ◌∷◌, map, Option, Some, None, is_some, IfSome, unwrap_or, option_map, option_and_then, Result, Ok, Err, refl, sym, ◌∙◌, ap, subst}
-use Rattle.std.specs.List.{AllByRecursion, list_all}
-use Rattle.std.proofs.lemmas.Str.{IsUtf8-nil}
-use Rattle.std.proofs.lemmas.Bool.{cond_both, not-false}
-use Rattle.mb_geom.specs.Description.{Description, block_sizes, are_parameters, SchemeFits, IsGood, description_of, refusals, first_fault, ok_unless, described}
+-- The descriptions that a text of an FDT Instance gives have blocks that hold all bytes of their files.
+use Rattle.std.proofs.Common.{◌≡◌, ℕ, zero, suc, ◌*◌, ◌+◌, ◌/◌, ◌%◌, ◌<◌, Bool, true, false, List, [], ◌∷◌, sum, Option, Some, None, Result, Ok, Err, refl, sym, ◌∙◌, ap, subst, arith}
+use Rattle.std.specs.List.{AllByRecursion}
+use Rattle.std.proofs.lemmas.Bool.{eqb-false, not-false}
+use Rattle.std.proofs.lemmas.Grind.{common_steps}
+use Rattle.std.proofs.lemmas.Nat.{div-add-mod'}
+use Rattle.mb_geom.specs.Partition.{ceiling, partition_of, sizes_of}
+use Rattle.mb_geom.specs.Description.{Description, symbols, block_sizes, blocking, are_parameters, description_of, refusals, first_fault, ok_unless, described}
+use Rattle.mb_geom.specs.SourceSymbol.{sub_sizes_of}
+use Rattle.mb_geom.specs.declared.parts.Parts.{Parts}
 use Rattle.mb_geom.specs.declared.desc.DescParts.{DescParts}
 use Rattle.mb_geom.specs.declared.desc.DescFault.{DescFault}
 use Rattle.mb_geom.specs.declared.desc.Scheme.{Scheme}
 use Rattle.mb_geom.specs.declared.desc.Scheme.TheVariants.{NoCode, Raptor}
-use Rattle.mb_geom.proofs.GoodLemmas.{made}
+use Rattle.mb_geom.proofs.PartitionLemmas.{le-ceiling-times, partition_of-from, things-total, sum-sizes_of, sum-scaled, sizes_of-scaled}
+use Rattle.mb_geom.proofs.BlockLemmas.{block_sizes-is}
+use Rattle.mb_geom.proofs.FileLemmas.{HasLayout}
 use Rattle.mb_fdt_text.specs.declared.fdt.Fdt.{Fdt}
 use Rattle.mb_fdt_text.specs.declared.fdt.FileEntry.{FileEntry}
 use Rattle.mb_fdt_text.specs.declared.fdt.FileFault.{FileFault}
-use Rattle.mb_fdt_text.specs.Entry.{Said, said_by, is_no_code, is_raptor, raptor_of, scheme_of, parts_of, first_refusal, unless, entry_of}
+use Rattle.mb_fdt_text.specs.Entry.{Said, said_by, parts_of, first_refusal, unless, entry_of}
 use Rattle.mb_fdt_text.specs.Entry.{refusals as refusals_said}
 use Rattle.mb_fdt_text.specs.Element.{Tag}
 use Rattle.mb_fdt_text.specs.Says.{value_of, root_attributes, text_files, IsFdt}
 use Rattle.mb_fdt_text.proofs.Texts.{texts_read}
 use Rattle.mb_fdt.specs.Reader.{fdt_of}
-use Rattle.mb_fdt.proofs.ValueLemmas.{number_below}
-use Rattle.mb_block.specs.Way.{way_of}
-use Rattle.mb_life.specs.Life.{has_ways}
-use Rattle.mb_machine.proofs.OnceLemmas.{no_raptor_parts}
+use Rattle.mb_machine.proofs.EachLemmas.{all-image}
 
--- the description without its location and its digest, of which no symbol depends
-abbrev pub bare : Description → Description
-bare d = record d { location = []; md5 = None }
+-- ---- symbols that aren't empty, with parameters that fit them
+-- A text's scheme need not fit its fields, as that of a good description does.
 
--- it is good, whatever its location and its digest
-abbrev pub IsSound : Description → Type 0
-IsSound d = IsGood (bare d)
+partition_whole : (i j : ℕ) → 0 < j → sum (sizes_of (partition_of i j)) ≡ i
+partition_whole i j some = ap (λ (p : Parts). sum (sizes_of p)) (sym (partition_of-from i j some)) ∙ sum-sizes_of _ ∙ things-total i j some
 
--- a number that a value gives is below a limit
-some_below : (read : List ℕ → Option ℕ) (limit : ℕ) (value : Option (List ℕ)) → ((v : List ℕ) → IfSome (read v) (λ n. n < limit))
-    → IfSome (option_and_then read value) (λ n. n < limit)
-some_below read limit None below = tt
-some_below read limit (Some value) below = below value
+-- of no things there may be no parts
+fewest_whole : (i b n : ℕ) → 0 < b → ceiling i b ≡ n → sum (sizes_of (partition_of i n)) ≡ i
+fewest_whole i b zero some none =
+    let enough = rw none at (le-ceiling-times i b some) in
+    let empty : i ≡ 0 = omega (arith, enough) in
+    rw empty refl
+fewest_whole i b (suc n) some is = partition_whole i (suc n) (omega arith)
 
--- ---- schemes
+blocks_whole : (t kt : ℕ) (s : Scheme) → are_parameters t s ≡ true → sum (sizes_of (blocking kt s)) ≡ kt
+blocks_whole t kt (NoCode b) are = fewest_whole kt b (ceiling kt b) (grind (arith, common_steps)) refl
+blocks_whole t kt (Raptor z n al) are = partition_whole kt z (grind (arith, common_steps))
 
--- the parameter of Compact No-Code fits its field
-abbrev NoCodeFits : Scheme → Type 0
-NoCodeFits (NoCode b) = b < 2 ^ 32
-NoCodeFits (Raptor z n al) = Unit {0}
+sub_symbols_whole : (t : ℕ) (s : Scheme) → are_parameters t s ≡ true → sum (sub_sizes_of t s) ≡ t
+sub_symbols_whole t (NoCode b) are = omega arith
+sub_symbols_whole t (Raptor z n al) are =
+    let even : t % al ≡ 0 = grind (arith, common_steps) in
+    let whole : t / al * al ≡ t = omega (arith, div-add-mod' t al, even) in
+    let units : Parts = partition_of (t / al) n in
+    let things : units.jl * units.il + units.js * units.is ≡ t / al = sym (sum-sizes_of units) ∙ partition_whole (t / al) n (grind (arith, common_steps)) in
+    ap sum (sym (sizes_of-scaled units al)) ∙ sum-scaled units al (t / al) t things whole
 
-no_code_fits : (b : Option ℕ) → IfSome b (λ n. n < 2 ^ 32) → IfSome (option_map NoCode b) NoCodeFits
-no_code_fits None fits = tt
-no_code_fits (Some b) fits = fits
-
-raptor_fits : (bytes : Option (List ℕ)) → IfSome (option_map raptor_of bytes) NoCodeFits
-raptor_fits None = tt
-raptor_fits (Some bytes) = tt
-
-said_fits : (s : Said) → IfSome (scheme_of s) NoCodeFits
-said_fits s =
-    let C : Option Scheme → Type 0 = λ o. IfSome o NoCodeFits in
-    cond_both (is_no_code s) _ _ C (λ _. no_code_fits _ (some_below _ (2 ^ 32) s.max_block (number_below (2 ^ 32))))
-    (λ _. cond_both (is_raptor s) _ _ C (λ _. raptor_fits _) (λ _. tt))
-
-scheme_fits : (scheme : Option Scheme) → IfSome scheme NoCodeFits → ((z n al : ℕ) → unwrap_or scheme (NoCode 0) ≡ Raptor z n al → ⊥) → IfSome scheme SchemeFits
-scheme_fits None fits none = tt
-scheme_fits (Some (NoCode b)) fits none = fits
-scheme_fits (Some (Raptor z n al)) fits none = absurd (none z n al refl)
-
-symbol_fits : (s : Said) → IfSome (parts_of s).symbol (λ t. t < 2 ^ 16)
-symbol_fits s =
-    cond_both (is_no_code s || is_raptor s) _ _ (λ (o : Option ℕ). IfSome o (λ t. t < 2 ^ 16)) (λ _. some_below _ (2 ^ 16) s.symbol (number_below (2 ^ 16))) (λ _. tt)
-
--- no block of Raptor has a way, and each file has one
-no_way : (z n al : ℕ) (sizes : List ℕ) → list_all (λ k. is_some (way_of (Raptor z n al) k)) sizes ≡ true → sizes ≡ []
-no_way z n al [] all = refl
-no_way z n al (k ∷ sizes) all = absurd cc
-
-no_raptor : (d : Description) (z n al : ℕ) → are_parameters d.symbol d.scheme ≡ true → has_ways d ≡ true → d.scheme ≡ Raptor z n al → ⊥
-no_raptor d z n al are all is =
-    no_raptor_parts d z n al is are
-    (no_way z n al (block_sizes d) (sym (ap (λ (s : Scheme). list_all (λ k. is_some (way_of s k)) (block_sizes d)) is) ∙ all))
+layout : (d : Description) → 0 < d.symbol → are_parameters d.symbol d.scheme ≡ true → HasLayout d
+layout d some are =
+    let all : sum (block_sizes d) ≡ symbols d = ap sum (block_sizes-is d) ∙ blocks_whole d.symbol (symbols d) d.scheme are in
+    record { sub_symbols = sub_symbols_whole d.symbol d.scheme are; enough = rw all (le-ceiling-times d.length d.symbol some) }
 
 -- ---- what an element describes
 
@@ -88,49 +69,30 @@ no_fault : (fault : Option DescFault) (d e : Description) → ok_unless fault d 
 no_fault None d e is = (refl, cc)
 no_fault (Some fault) d e is = absurd cc
 
-abbrev bare_parts : DescParts → DescParts
-bare_parts p = record p { location = []; md5 = None }
-
-bare_faults : (p : DescParts) → first_fault (refusals (bare_parts p)) ≡ first_fault (refusals p)
-unfolding block_sizes
-bare_faults p = refl
-
-sound_parts : (p : DescParts) (d : Description) → IfSome p.symbol (λ t. t < 2 ^ 16) → IfSome p.scheme NoCodeFits → described p ≡ Ok d → has_ways d ≡ true → IsSound d
-sound_parts p d symbol scheme is all =
+parts_layout : (p : DescParts) (d : Description) → described p ≡ Ok d → HasLayout d
+parts_layout p d is =
     let none = no_fault (first_fault (refusals p)) (description_of p) d is in
     let fails = none_holds (refusals p) none.0 in
-    let are : are_parameters (description_of p).symbol (description_of p).scheme ≡ true = not-false _ fails.1.1.1.1.1.1.0 in
-    let ways : has_ways (description_of p) ≡ true = ap has_ways none.1 ∙ all in
-    let fault : first_fault (refusals (bare_parts p)) ≡ None = bare_faults p ∙ none.0 in
-    subst (λ (x : Description). IsGood (bare x)) none.1
-    ((made (bare (description_of p))).1 (record {
-      of = bare_parts p;
-      are = record { location = IsUtf8-nil; symbol = symbol; scheme = scheme_fits p.scheme scheme (λ z n al. no_raptor (description_of p) z n al are ways); digest = tt };
-      made = ap (λ (f : Option DescFault). ok_unless f (description_of (bare_parts p))) fault;
-    }))
+    let filled = eqb-false (description_of p).symbol 0 fails.1.1.1.1.1.0 in
+    subst HasLayout none.1 (layout (description_of p) (omega (arith, filled)) (not-false _ fails.1.1.1.1.1.1.0))
 
 unless_ok : (refused : Option FileFault) (found : Result Description DescFault) (d : Description) → unless refused found ≡ Ok d → found ≡ Ok d
 unless_ok None (Ok other) d is = cc
 unless_ok None (Err fault) d is = absurd cc
 unless_ok (Some fault) found d is = absurd cc
 
--- a description that an element gives, and whose blocks have ways, is good but for its location and its digest
+-- the blocks of a description that an element gives hold its file
 abbrev pub IsSoundEntry : FileEntry → Type 0
-IsSoundEntry e = (d : Description) → e.entry ≡ Ok d → has_ways d ≡ true → IsSound d
+IsSoundEntry e = (d : Description) → e.entry ≡ Ok d → HasLayout d
 
 sound_entry : (s : Said) → IsSoundEntry (entry_of s)
 unfolding entry_of
-sound_entry s d is all =
-    sound_parts (parts_of s) d (symbol_fits s) (said_fits s) (unless_ok (first_refusal (refusals_said s)) (described (parts_of s)) d is) all
+sound_entry s d is = parts_layout (parts_of s) d (unless_ok (first_refusal (refusals_said s)) (described (parts_of s)) d is)
 
 -- ---- what a text describes
-
-sound_files : {A : Type 0} (f : A → FileEntry) → ((x : A) → IsSoundEntry (f x)) → (xs : List A) → AllByRecursion IsSoundEntry (map f xs)
-sound_files f each [] = tt
-sound_files f each (x ∷ xs) = (each x, sound_files f each xs)
 
 pub sound_text : (text : List ℕ) (fdt : Fdt) → fdt_of text ≡ Ok fdt → AllByRecursion IsSoundEntry fdt.files
 sound_text text fdt is =
     let fdt_is : IsFdt text fdt = (texts_read text fdt).1 is in
     subst (λ (f : Fdt). AllByRecursion IsSoundEntry f.files) (sym fdt_is.says)
-    (sound_files (λ (file : Tag). entry_of (said_by (value_of (root_attributes fdt_is.of)) (value_of file.attributes))) (λ file. sound_entry _) (text_files fdt_is.of))
+    (all-image IsSoundEntry (λ (file : Tag). entry_of (said_by (value_of (root_attributes fdt_is.of)) (value_of file.attributes))) (λ file. sound_entry _) (text_files fdt_is.of))

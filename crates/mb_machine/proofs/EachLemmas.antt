@@ -14,6 +14,16 @@ pub all-map : {X Y : Type 0} (P : X → Type 0) (Q : Y → Type 0) (f : X → Y)
 all-map P Q f [] each all = tt
 all-map P Q f (x ∷ xs) each all = (each x all.0, all-map P Q f xs each all.1)
 
+-- what holds of each image
+pub all-image : {X Y : Type 0} (Q : Y → Type 0) (f : X → Y) → ((x : X) → Q (f x)) → (xs : List X) → AllByRecursion Q (map f xs)
+all-image Q f each [] = tt
+all-image Q f each (x ∷ xs) = (each x, all-image Q f each xs)
+
+-- what follows for each item
+pub all-weaker : {X : Type 0} (P Q : X → Type 0) (xs : List X) → ((x : X) → P x → Q x) → AllByRecursion P xs → AllByRecursion Q xs
+all-weaker P Q [] each all = tt
+all-weaker P Q (x ∷ xs) each all = (each x all.0, all-weaker P Q xs each all.1)
+
 -- those that pass a test
 pub all-filter : {X : Type 0} (P Q : X → Type 0) (p : X → Bool) (xs : List X) → ((x : X) → p x ≡ true → P x → Q x) → AllByRecursion P xs → AllByRecursion Q (filter p xs)
 all-filter P Q p [] each all = tt

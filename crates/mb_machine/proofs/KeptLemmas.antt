@@ -1,136 +1,197 @@
--- The blocks of a file of which honest symbols were heard.
-use Rattle.std.proofs.Common.{◌≡◌, ℕ, suc, ◌+◌, ◌<◌, true, List, [], ◌∷◌, ◌++◌, length, get_or, slice_index_or, map, fold, refl, sym, ◌∙◌, ap, ap₂, subst, arith}
-use Rattle.std.specs.List.{AllByRecursion, range_with_len}
-use Rattle.std.proofs.lemmas.Bool.{and_parts}
+-- The blocks of a file of which only symbols of the file were heard.
+use Rattle.std.proofs.Common.{◌≡◌, ℕ, zero, suc, ◌+◌, ◌^◌, ◌<◌, ◌==◌, true, List, [], ◌∷◌, length, get_or, slice_index, slice_index_or, set, map, inl, inr, Option, Some, None, option_map, unwrap_or, refl, sym, ◌∙◌, ap, ap₂, subst, arith, eqb-true}
+use Rattle.std.specs.List.{AllByRecursion, find, range_with_len}
+use Rattle.std.proofs.lemmas.Bool.{and_parts, cases_eq, cases_lt}
+use Rattle.std.proofs.lemmas.List.{length-map, length-set, get_or-map, get_or-set_same, get_or-set_other, get_or_past}
+use Rattle.std.proofs.lemmas.List.Elements.{All-get_or}
 use Rattle.std.proofs.lemmas.List.FromFn.{length-map-range_with_len, get_or-map-range_with_len}
-use Rattle.std.proofs.lemmas.List.Sums.{fold-append}
+use Rattle.mb_base.specs.Number.{AreBytes}
 use Rattle.mb_geom.specs.Description.{Description, block_sizes, block_size, block_count}
-use Rattle.mb_geom.specs.SourceSymbol.{source_symbol, source_symbols, source_blocks, joined_file}
+use Rattle.mb_geom.specs.SourceSymbol.{place_of_byte, source_byte, source_symbol, source_symbols, joined_file}
 use Rattle.mb_geom.specs.declared.desc.Scheme.{Scheme}
 use Rattle.mb_geom.specs.declared.desc.Scheme.TheVariants as scheme
-use Rattle.mb_geom.proofs.LayoutLemmas.{makes_the_file}
-use Rattle.mb_block.specs.Block.{Pair, hear, is_complete, sources}
-use Rattle.mb_block.specs.Laws.{IsSent, hear_all}
-use Rattle.mb_block.specs.declared.way.Way.{Way}
-use Rattle.mb_block.specs.declared.way.Way.TheVariants.{NoCode}
-use Rattle.mb_block.proofs.LawLemmas.{sent}
-use Rattle.mb_life.specs.Life.{way_with, way_in, ways, hear_pairs, are_complete, blocks_of}
+use Rattle.mb_geom.proofs.FileLemmas.{HasLayout, joined_file-is}
+use Rattle.mb_tables.specs.Tables.{RaptorTables}
+use Rattle.mb_tables.specs.declared.row.Row.{Row}
+use Rattle.mb_encoder.specs.Symbols.{IsSymbol}
+use Rattle.mb_encoder.specs.Solutions.{Pair}
+use Rattle.mb_way.specs.Way.{Way, Way.NoCode, Way.Raptor, code_with, size_of}
+use Rattle.mb_way.specs.Ways.{way_with, ways_of}
+use Rattle.mb_way.specs.Solution.{sources}
+use Rattle.mb_way.specs.Heard.{AreKept, hear, hear_pairs, is_complete}
+use Rattle.mb_way.specs.Laws.{IsSymbolOf}
+use Rattle.mb_way.proofs.Keeping as keeping
+use Rattle.mb_way.proofs.Sent.{sources_sent}
+use Rattle.mb_file.specs.File.{way_at, kept_at, nothing_kept, hear_in, are_complete, blocks_of, file_bytes}
 use Rattle.mb_machine.specs.SentSet.{IsSymbolOfFile}
-use Rattle.mb_machine.proofs.EachLemmas.{all-append}
-use Rattle.mb_machine.proofs.DescribedLemmas.{bare, IsSound}
+use Rattle.mb_machine.proofs.EachLemmas.{all-image, all-weaker}
+use Rattle.mb_machine.proofs.HandOutLemmas.{found_passes}
 
 -- ---- a block
 
--- symbols of the file's block were heard, and nothing else
-pub record IsSentKept (d : Description) (bytes : List ℕ) (sbn : ℕ) (kept : List Pair) : Type 0 where
-  pub heard : List Pair
-  pub honest : AllByRecursion (IsSent (source_symbols d bytes sbn)) heard
-  pub same : kept ≡ hear_all (way_in d sbn) heard
+-- symbols of a block with these source symbols of t bytes are kept, and nothing else
+pub record IsSentKept (w : Way) (t : ℕ) (symbols : List (List ℕ)) (kept : List Pair) : Type 0 where
+  pub are : AreKept w kept
+  pub honest : AllByRecursion (IsSymbolOf w t symbols) kept
 
-pub nothing-kept : (d : Description) (bytes : List ℕ) (sbn : ℕ) → IsSentKept d bytes sbn []
-nothing-kept d bytes sbn = record { heard = []; honest = tt; same = refl }
+nothing-kept : (w : Way) (t : ℕ) (symbols : List (List ℕ)) → IsSentKept w t symbols []
+nothing-kept w t symbols = record { are = keeping.nothing_kept w; honest = tt }
 
--- as many symbols as the block has
-symbols-count : (d : Description) (bytes : List ℕ) (sbn : ℕ) → length (source_symbols d bytes sbn) ≡ block_size d sbn
-symbols-count d bytes sbn = length-map-range_with_len (source_symbol d bytes sbn) 0 (block_size d sbn)
-
-pair-sent : (d : Description) (bytes : List ℕ) (sbn : ℕ) (pair : Pair) → sbn < block_count d → IsSymbolOfFile (record { desc = d; bytes = bytes }) sbn pair
-    → IsSent (source_symbols d bytes sbn) pair
-pair-sent d bytes sbn pair within of below =
-    let inside : pair.esi < block_size d sbn = omega (arith, below, symbols-count d bytes sbn) in
-    of within inside ∙ sym (get_or-map-range_with_len (source_symbol d bytes sbn) 0 (block_size d sbn) pair.esi pair.esi [] inside (omega arith))
-
-pairs-sent : (d : Description) (bytes : List ℕ) (sbn : ℕ) (pairs : List Pair) → sbn < block_count d
-    → AllByRecursion (IsSymbolOfFile (record { desc = d; bytes = bytes }) sbn) pairs → AllByRecursion (IsSent (source_symbols d bytes sbn)) pairs
-pairs-sent d bytes sbn [] within all = tt
-pairs-sent d bytes sbn (pair ∷ pairs) within all = (pair-sent d bytes sbn pair within all.0, pairs-sent d bytes sbn pairs within all.1)
-
--- more honest symbols
-pub more-kept : (d : Description) (bytes : List ℕ) (sbn : ℕ) (kept pairs : List Pair) → sbn < block_count d → IsSentKept d bytes sbn kept
-    → AllByRecursion (IsSymbolOfFile (record { desc = d; bytes = bytes }) sbn) pairs → IsSentKept d bytes sbn (hear_pairs (way_in d sbn) kept pairs)
-more-kept d bytes sbn kept pairs within is all =
-    let w : Way = way_in d sbn in
+-- one more symbol
+one-kept : (w : Way) (t : ℕ) (symbols : List (List ℕ)) (kept : List Pair) (pair : Pair) → IsSymbolOf w t symbols pair → IsSentKept w t symbols kept
+    → IsSentKept w t symbols (hear w kept pair)
+one-kept w t symbols kept pair of is =
+    let P : Pair → Type 0 = IsSymbolOf w t symbols in
     record {
-      heard = is.heard ++ pairs;
-      honest = all-append (IsSent (source_symbols d bytes sbn)) is.heard pairs is.honest (pairs-sent d bytes sbn pairs within all);
-      same = ap (λ (ps : List Pair). fold (hear w) ps pairs) is.same ∙ sym (fold-append (hear w) [] is.heard pairs);
+      are = keeping.heard_kept w kept pair is.are;
+      honest = keeping.hear_keeps (AllByRecursion P) w kept pair is.honest (λ _. keeping.all_kept_with P w pair kept of is.honest);
     }
 
--- ---- a complete block
+more-kept : (w : Way) (t : ℕ) (symbols : List (List ℕ)) (kept pairs : List Pair) → AllByRecursion (IsSymbolOf w t symbols) pairs → IsSentKept w t symbols kept
+    → IsSentKept w t symbols (hear_pairs w kept pairs)
+more-kept w t symbols kept [] all is = is
+more-kept w t symbols kept (pair ∷ pairs) all is =
+    more-kept w t symbols (hear w kept pair) pairs all.1 (one-kept w t symbols kept pair all.0 is)
 
--- each block is one of Compact No-Code
-no_code : (s : Scheme) (k : ℕ) → way_with s k ≡ NoCode k
-no_code (scheme.NoCode b) k = refl
-no_code (scheme.Raptor z n al) k = refl
+-- ---- ways
 
-by_law : (w : Way) (symbols : List (List ℕ)) (heard : List Pair) → NoCode (length symbols) ≡ w → AllByRecursion (IsSent symbols) heard
-    → is_complete w (hear_all w heard) ≡ true → sources w (hear_all w heard) ≡ symbols
-by_law w symbols heard is honest = subst (λ (v : Way). is_complete v (hear_all v heard) ≡ true → sources v (hear_all v heard) ≡ symbols) is (sent symbols heard honest)
+found-size : (tables : RaptorTables) (k : ℕ) (found : Option Row) → find (λ (row : Row). row.k == k) tables.rows ≡ found
+    → size_of (unwrap_or (option_map Raptor (option_map (code_with tables) found)) (NoCode k)) ≡ k
+found-size tables k None is = refl
+found-size tables k (Some row) is = eqb-true row.k k (found_passes (λ (r : Row). r.k == k) tables.rows row is)
 
-complete-sent : (d : Description) (bytes : List ℕ) (sbn : ℕ) (kept : List Pair) → IsSentKept d bytes sbn kept
-    → is_complete (way_in d sbn) kept ≡ true → sources (way_in d sbn) kept ≡ source_symbols d bytes sbn
-complete-sent d bytes sbn kept is complete =
-    let w : Way = way_in d sbn in
-    let number : NoCode (length (source_symbols d bytes sbn)) ≡ w = ap NoCode (symbols-count d bytes sbn) ∙ sym (no_code d.scheme (block_size d sbn)) in
-    ap (sources w) is.same ∙ by_law w (source_symbols d bytes sbn) is.heard number is.honest (sym (ap (is_complete w) is.same) ∙ complete)
+-- a way has as many source symbols as its block
+size-with : (tables : RaptorTables) (s : Scheme) (k : ℕ) → size_of (way_with tables s k) ≡ k
+size-with tables (scheme.NoCode b) k = refl
+size-with tables (scheme.Raptor z n al) k = found-size tables k (find (λ (row : Row). row.k == k) tables.rows) refl
+
+-- the way of a block of a file
+abbrev pub way_of_block : RaptorTables → Description → ℕ → Way
+way_of_block tables d sbn = way_with tables d.scheme (block_size d sbn)
+
+way_at-is : (tables : RaptorTables) (d : Description) (sbn : ℕ) → sbn < block_count d → way_at (ways_of tables d) sbn ≡ way_of_block tables d sbn
+way_at-is tables d sbn within = get_or-map (way_with tables d.scheme) (block_sizes d) sbn 0 (NoCode 0) within
+
+-- ---- the source symbols of a block
+
+byte_below : (bytes : List ℕ) (p : ℕ) → AreBytes bytes → slice_index bytes p < 2 ^ 8
+byte_below bytes p all =
+    elim (cases_lt p (length bytes)) [
+      | inl inside ↦ All-get_or (λ byte. byte < 256) bytes p 0 inside all
+      | inr past ↦ (let none = get_or_past bytes p 0 past in omega (arith, none))
+    ]
+
+symbol-is : (d : Description) (bytes : List ℕ) (sbn i : ℕ) → AreBytes bytes → IsSymbol d.symbol (source_symbol d bytes sbn i)
+unfolding source_symbol
+symbol-is d bytes sbn i all = record {
+  long = length-map-range_with_len (source_byte d bytes sbn i) 0 d.symbol;
+  bytes = λ b below. subst (λ (n : ℕ). n < 2 ^ 8) (sym (get_or-map-range_with_len (source_byte d bytes sbn i) 0 d.symbol b b 0 below (omega arith)))
+      (byte_below bytes (place_of_byte d sbn i b) all);
+}
+
+-- a complete block is the one that was sent
+complete-sent : (tables : RaptorTables) (d : Description) (bytes : List ℕ) (sbn : ℕ) (kept : List Pair) → AreBytes bytes
+    → IsSentKept (way_of_block tables d sbn) d.symbol (source_symbols d bytes sbn) kept → is_complete (way_of_block tables d sbn) kept ≡ true
+    → sources (way_of_block tables d sbn) d.symbol kept ≡ source_symbols d bytes sbn
+complete-sent tables d bytes sbn kept all is complete =
+    let w : Way = way_of_block tables d sbn in
+    let number : length (source_symbols d bytes sbn) ≡ size_of w
+    = length-map-range_with_len (source_symbol d bytes sbn) 0 (block_size d sbn) ∙ sym (size-with tables d.scheme (block_size d sbn)) in
+    sources_sent w d.symbol (source_symbols d bytes sbn) kept number
+    (all-image (IsSymbol d.symbol) (source_symbol d bytes sbn) (λ i. symbol-is d bytes sbn i all) (range_with_len 0 (block_size d sbn)))
+    is.are is.honest complete
 
 -- ---- all blocks
 
 -- the blocks from a number on
-record AreSentFrom (d : Description) (bytes : List ℕ) (at : ℕ) (sizes : List ℕ) (kept : List (List Pair)) : Type 0 where
+record AreSentFrom (tables : RaptorTables) (d : Description) (bytes : List ℕ) (at : ℕ) (sizes : List ℕ) (kept : List (List Pair)) : Type 0 where
   number : length kept ≡ length sizes
   sizes_are : (i : ℕ) → i < length sizes → get_or sizes i 0 ≡ block_size d (at + i)
-  each : (i : ℕ) → i < length sizes → IsSentKept d bytes (at + i) (get_or kept i [])
+  each : (i : ℕ) → i < length sizes → IsSentKept (way_of_block tables d (at + i)) d.symbol (source_symbols d bytes (at + i)) (get_or kept i [])
 
 next : (at i : ℕ) → at + suc i ≡ at + 1 + i
 next at i = omega arith
 
-others-sent : (d : Description) (bytes : List ℕ) (at k : ℕ) (sizes : List ℕ) (pairs : List Pair) (kept : List (List Pair))
-    → AreSentFrom d bytes at (k ∷ sizes) (pairs ∷ kept) → AreSentFrom d bytes (at + 1) sizes kept
-others-sent d bytes at k sizes pairs kept are = record {
+others-sent : (tables : RaptorTables) (d : Description) (bytes : List ℕ) (at k : ℕ) (sizes : List ℕ) (pairs : List Pair) (kept : List (List Pair))
+    → AreSentFrom tables d bytes at (k ∷ sizes) (pairs ∷ kept) → AreSentFrom tables d bytes (at + 1) sizes kept
+others-sent tables d bytes at k sizes pairs kept are = record {
   number = (let number = are.number in omega arith);
   sizes_are = λ i below. are.sizes_are (suc i) (omega arith) ∙ ap (block_size d) (next at i);
-  each = λ i below. subst (λ (n : ℕ). IsSentKept d bytes n (get_or kept i [])) (next at i) (are.each (suc i) (omega arith));
+  each = λ i below. subst (λ (n : ℕ). IsSentKept (way_of_block tables d n) d.symbol (source_symbols d bytes n) (get_or kept i [])) (next at i)
+      (are.each (suc i) (omega arith));
 }
 
-blocks-sent : (d : Description) (bytes : List ℕ) (at : ℕ) (sizes : List ℕ) (kept : List (List Pair)) → AreSentFrom d bytes at sizes kept
-    → are_complete (map (way_with d.scheme) sizes) kept ≡ true
-    → blocks_of (map (way_with d.scheme) sizes) kept ≡ map (source_symbols d bytes) (range_with_len at (length sizes))
+blocks-sent : (tables : RaptorTables) (d : Description) (bytes : List ℕ) (at : ℕ) (sizes : List ℕ) (kept : List (List Pair)) → AreBytes bytes
+    → AreSentFrom tables d bytes at sizes kept → are_complete (map (way_with tables d.scheme) sizes) kept ≡ true
+    → blocks_of (map (way_with tables d.scheme) sizes) d.symbol kept ≡ map (source_symbols d bytes) (range_with_len at (length sizes))
 unfolding are_complete blocks_of
-blocks-sent d bytes at [] kept are complete = refl
-blocks-sent d bytes at (k ∷ sizes) [] are complete = absurd cc
-blocks-sent d bytes at (k ∷ sizes) (pairs ∷ kept) are complete =
-    let parts = and_parts (is_complete (way_with d.scheme k) pairs) (are_complete (map (way_with d.scheme) sizes) kept) complete in
+blocks-sent tables d bytes at [] kept all are complete = refl
+blocks-sent tables d bytes at (k ∷ sizes) [] all are complete = absurd cc
+blocks-sent tables d bytes at (k ∷ sizes) (pairs ∷ kept) all are complete =
+    let parts = and_parts (is_complete (way_with tables d.scheme k) pairs) (are_complete (map (way_with tables d.scheme) sizes) kept) complete in
     let here : at + 0 ≡ at = omega arith in
     let size : k ≡ block_size d at = are.sizes_are 0 (omega arith) ∙ ap (block_size d) here in
-    let way : way_with d.scheme k ≡ way_in d at = ap (way_with d.scheme) size in
-    let own : IsSentKept d bytes at pairs = subst (λ (n : ℕ). IsSentKept d bytes n pairs) here (are.each 0 (omega arith)) in
-    let first : sources (way_with d.scheme k) pairs ≡ source_symbols d bytes at =
-    ap (λ (w : Way). sources w pairs) way ∙ complete-sent d bytes at pairs own (sym (ap (λ (w : Way). is_complete w pairs) way) ∙ parts.0) in
+    let way : way_with tables d.scheme k ≡ way_of_block tables d at = ap (way_with tables d.scheme) size in
+    let own = subst (λ (n : ℕ). IsSentKept (way_of_block tables d n) d.symbol (source_symbols d bytes n) pairs) here (are.each 0 (omega arith)) in
+    let first : sources (way_with tables d.scheme k) d.symbol pairs ≡ source_symbols d bytes at =
+    ap (λ (w : Way). sources w d.symbol pairs) way
+    ∙ complete-sent tables d bytes at pairs all own (sym (ap (λ (w : Way). is_complete w pairs) way) ∙ parts.0) in
     ap₂ (λ (b : List (List ℕ)) (bs : List (List (List ℕ))). b ∷ bs) first
-    (blocks-sent d bytes (at + 1) sizes kept (others-sent d bytes at k sizes pairs kept are) parts.1)
+    (blocks-sent tables d bytes (at + 1) sizes kept all (others-sent tables d bytes at k sizes pairs kept are) parts.1)
 
 -- ---- the file
 
--- no symbol depends on the location or the digest
-bare-joined : (d : Description) (bytes : List ℕ) → joined_file d (source_blocks d bytes) ≡ joined_file (bare d) (source_blocks (bare d) bytes)
-unfolding joined_file block_sizes source_symbol
-bare-joined d bytes = refl
-
 -- what is known of all blocks
-pub record AreSentKept (d : Description) (bytes : List ℕ) (kept : List (List Pair)) : Type 0 where
+pub record AreSentKept (tables : RaptorTables) (d : Description) (bytes : List ℕ) (kept : List (List Pair)) : Type 0 where
   pub number : length kept ≡ block_count d
-  pub each : (sbn : ℕ) → sbn < block_count d → IsSentKept d bytes sbn (slice_index_or kept sbn [])
+  pub each : (sbn : ℕ) → sbn < block_count d
+      → IsSentKept (way_of_block tables d sbn) d.symbol (source_symbols d bytes sbn) (slice_index_or kept sbn [])
+
+-- before anything was heard
+pub nothing_in : (ways : List Way) (n : ℕ) → [] ≡ kept_at (nothing_kept ways) n
+nothing_in [] n = refl
+nothing_in (w ∷ ways) zero = refl
+nothing_in (w ∷ ways) (suc n) = nothing_in ways n
+
+pub nothing-sent : (tables : RaptorTables) (d : Description) (bytes : List ℕ) → AreSentKept tables d bytes (nothing_kept (ways_of tables d))
+nothing-sent tables d bytes = record {
+  number = length-map (ways_of tables d) (λ w. []) ∙ length-map (block_sizes d) (way_with tables d.scheme);
+  each = λ sbn _. subst (IsSentKept (way_of_block tables d sbn) d.symbol (source_symbols d bytes sbn)) (nothing_in (ways_of tables d) sbn)
+      (nothing-kept (way_of_block tables d sbn) d.symbol (source_symbols d bytes sbn));
+}
+
+-- symbols of a block; the file may not have it
+pub more-sent : (tables : RaptorTables) (d : Description) (bytes : List ℕ) (sbn : ℕ) (pairs : List Pair) (kept : List (List Pair))
+    → AllByRecursion (IsSymbolOfFile tables (record { desc = d; bytes = bytes }) sbn) pairs → AreSentKept tables d bytes kept
+    → AreSentKept tables d bytes (hear_in (ways_of tables d) sbn pairs kept)
+more-sent tables d bytes sbn pairs kept all are =
+    let heard : List Pair = hear_pairs (way_at (ways_of tables d) sbn) (kept_at kept sbn) pairs in
+    let IsAt : ℕ → List Pair → Type 0 = λ n ps. IsSentKept (way_of_block tables d n) d.symbol (source_symbols d bytes n) ps in
+    let own : sbn < block_count d → IsAt sbn heard
+    = λ within. subst (λ (w : Way). IsAt sbn (hear_pairs w (kept_at kept sbn) pairs)) (sym (way_at-is tables d sbn within))
+    (more-kept (way_of_block tables d sbn) d.symbol (source_symbols d bytes sbn) (kept_at kept sbn) pairs
+    (all-weaker (IsSymbolOfFile tables (record { desc = d; bytes = bytes }) sbn) (IsSymbolOf (way_of_block tables d sbn) d.symbol (source_symbols d bytes sbn)) pairs
+    (λ pair of. of within) all) (are.each sbn within)) in
+    record {
+      number = length-set kept sbn heard ∙ are.number;
+      each = λ n below. elim (cases_eq n sbn) [
+        | inl same ↦
+            (let within : sbn < block_count d = subst (λ (m : ℕ). m < block_count d) same below in
+            let inside : sbn < length kept = omega (arith, are.number, within) in
+            subst (λ (m : ℕ). IsAt m (get_or (set kept sbn heard) m [])) (sym same)
+            (subst (IsAt sbn) (sym (get_or-set_same kept sbn heard [] inside)) (own within)))
+        | inr other ↦ subst (IsAt n) (sym (get_or-set_other kept sbn n heard [] other)) (are.each n below)
+      ];
+    }
 
 -- the file that follows from complete blocks is the sent one
-pub file-sent : (d : Description) (bytes : List ℕ) (kept : List (List Pair)) → IsSound d → length bytes ≡ d.length
-    → AreSentKept d bytes kept → are_complete (ways d) kept ≡ true → joined_file d (blocks_of (ways d) kept) ≡ bytes
-file-sent d bytes kept sound long are complete =
+pub file-sent : (tables : RaptorTables) (d : Description) (bytes : List ℕ) (kept : List (List Pair)) → HasLayout d → length bytes ≡ d.length → AreBytes bytes
+    → AreSentKept tables d bytes kept → are_complete (ways_of tables d) kept ≡ true → file_bytes d (ways_of tables d) kept ≡ bytes
+file-sent tables d bytes kept layout long all are complete =
     let before : (i : ℕ) → 0 + i ≡ i = λ i. omega arith in
-    let from : AreSentFrom d bytes 0 (block_sizes d) kept = record {
+    let from : AreSentFrom tables d bytes 0 (block_sizes d) kept = record {
       number = are.number;
       sizes_are = λ i _. ap (block_size d) (sym (before i));
-      each = λ i below. subst (λ (n : ℕ). IsSentKept d bytes n (get_or kept i [])) (sym (before i)) (are.each i below);
+      each = λ i below. subst (λ (n : ℕ). IsSentKept (way_of_block tables d n) d.symbol (source_symbols d bytes n) (get_or kept i [])) (sym (before i)) (are.each i below);
     } in
-    ap (joined_file d) (blocks-sent d bytes 0 (block_sizes d) kept from complete)
-    ∙ bare-joined d bytes ∙ makes_the_file (bare d) bytes sound long
+    ap (joined_file d) (blocks-sent tables d bytes 0 (block_sizes d) kept all from complete) ∙ joined_file-is d bytes layout long

@@ -9,3 +9,4 @@ pub mod DescribedLemmas
 pub mod KeptLemmas
 pub mod LifeLemmas
 pub mod HonestLemmas
+pub mod OrderLemmas

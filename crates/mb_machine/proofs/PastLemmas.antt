@@ -4,10 +4,10 @@ use Rattle.std.specs.List.{AllByRecursion}
 use Rattle.std.proofs.lemmas.Bool.{cond_both, not-true, ltb-false}
 use Rattle.mb_alc.specs.Packet.{Packet, Body}
 use Rattle.mb_alc.specs.declared.packet.Fti.{Fti}
-use Rattle.mb_block.specs.Block.{Pair}
 use Rattle.mb_fdt_text.specs.declared.fdt.Fdt.{Fdt}
 use Rattle.mb_fdt_text.specs.declared.fdt.FdtFault.{FdtFault}
 use Rattle.mb_fdt.specs.Reader.{fdt_of}
+use Rattle.mb_encoder.specs.Solutions.{Pair}
 use Rattle.mb_life.specs.Life.{Life, hear_in_block}
 use Rattle.mb_machine.specs.Table.{Table, is_past, tick_to, tick}
 use Rattle.mb_machine.specs.Packets.{Stepped, packet, read_instance, hear_in_window, pairs_of, hear_symbols}
@@ -46,7 +46,7 @@ instance-current id fti (Ok fdt) t all =
     cond_both (nat_lt fdt.expires t.clock) _ _ StaysCurrent (λ _. all)
     (λ soon.
     let now : t.clock ≤ fdt.expires = ltb-false fdt.expires t.clock soon in
-    of_entries (IsCurrent t.clock) (λ _. Unit {0}) fdt.expires fdt.files _
+    of_entries (IsCurrent t.clock) (λ _. Unit {0}) t.tables fdt.expires fdt.files _
     (longer_current t.clock fdt.expires) (λ e toi d _ _ _ _. now) (any fdt.files) all)
 
 window-current : (id : ℕ) (fti : Option Fti) (body : Body) (t : Table) → AreCurrent t → StaysCurrent (hear_in_window id fti body t)

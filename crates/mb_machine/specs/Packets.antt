@@ -14,8 +14,10 @@ use Rattle.mb_window.specs.Assembled.{short_bytes}
 use Rattle.mb_window.specs.Window as window
 use Rattle.mb_window.specs.declared.heard.WindowHeard.{WindowHeard}
 use Rattle.mb_window.specs.declared.heard.WindowHeard.TheVariants as fdt
-use Rattle.mb_block.specs.Block.{Pair}
-use Rattle.mb_life.specs.Life.{Life, way_in, kept_in, pairs_from, hear_pairs, hear_in_block}
+use Rattle.mb_encoder.specs.Solutions.{Pair}
+use Rattle.mb_way.specs.Heard.{hear_pairs}
+use Rattle.mb_file.specs.File.{pairs_from}
+use Rattle.mb_life.specs.Life.{Life, way_in, kept_in, hear_in_block}
 use Rattle.mb_machine.specs.Table.{Table, tick, life_of, change_life}
 use Rattle.mb_machine.specs.Entries.{with_instance}
 use Rattle.mb_machine.specs.declared.reason.Reason.{Reason}
@@ -40,7 +42,7 @@ read_instance id fti (Err fault) t = record { table = record t { slots = window.
 read_instance id fti (Ok fdt) t =
     if nat_lt fdt.expires t.clock
     then record { table = record t { slots = window.clear id t.slots }; happened = LateInstance id }
-    else (let s = with_instance fdt.expires fdt.files t.lives in record {
+    else (let s = with_instance t.tables fdt.expires fdt.files t.lives in record {
       table = record t { slots = window.settle id fti fdt.expires t.slots; lives = s.lives };
       happened = Instance id s.report;
     })
@@ -141,7 +143,7 @@ pairs_of d body = pairs_from (symbol_count d body) d.symbol body.esi body.payloa
 
 -- how many more pairs a block keeps once these were heard
 abbrev pub news : Life → ℕ → List Pair → ℕ
-news life sbn pairs = length (hear_pairs (way_in life.desc sbn) (kept_in sbn life) pairs) - length (kept_in sbn life)
+news life sbn pairs = length (hear_pairs (way_in sbn life) (kept_in sbn life) pairs) - length (kept_in sbn life)
 
 -- symbols of a block of a life are heard
 abbrev pub hear_symbols : Life → ℕ → List Pair → Table → Stepped

@@ -3,11 +3,14 @@ use Rattle.std.specs.Prelude.{ℕ, ◌+◌, ◌-◌, ◌^◌, ◌==◌, ◌||◌
 use Rattle.mb_geom.specs.Description.{Description, plain, equations}
 use Rattle.mb_window.specs.Window as window
 use Rattle.mb_window.specs.declared.slot.Slot.{Slot}
+use Rattle.mb_tables.specs.Tables.{RaptorTables}
 use Rattle.mb_life.specs.Life.{Life}
 
 pub record Table : Type 0 where
   -- the TSI of the session
   pub tsi : ℕ
+  -- the tables of the Raptor code
+  pub tables : RaptorTables
   -- the greatest moment so far
   pub clock : ℕ
   -- whether the sender closed the session
@@ -20,8 +23,8 @@ pub record Table : Type 0 where
   pub expired : ℕ
 
 -- before anything is heard
-abbrev pub fresh : ℕ → Table
-fresh tsi = record { tsi = tsi; clock = 0; closed = false; slots = []; lives = []; expired = 0 }
+abbrev pub fresh : ℕ → RaptorTables → Table
+fresh tsi tables = record { tsi = tsi; tables = tables; clock = 0; closed = false; slots = []; lives = []; expired = 0 }
 
 -- a count that rises by so many stands still at the last value of its 64 bits
 abbrev pub raised_by : ℕ → ℕ → ℕ

@@ -1,4 +1,4 @@
-ghost use Rattle.mb_machine.specs.Laws.{ReadyOneByOne, NoneIsReady, HandedOutOnce, NoLifeIsPast, HonestFilesAreSent};
+ghost use Rattle.mb_machine.specs.Laws.{ReadyOneByOne, NoneIsReady, HandedOutOnce, NoLifeIsPast, HonestFilesAreSent, CompleteByHeard, TwoOrdersOneFile};
 
 /// The laws of hand-outs: the first ready life being handed out, the other ready lives stay ready, and all hand-outs
 /// lead to the same lives; where no life is ready, nothing is handed out. It does nothing.
@@ -22,4 +22,16 @@ pub fn no_life_is_past()
 /// is the one that was sent. It does nothing.
 pub fn honest_files_are_sent()
     ensures { HonestFilesAreSent }
+{}
+
+/// The law of what is heard: a block of a life is complete exactly where the symbols that were heard of it determine it.
+/// It does nothing.
+pub fn complete_by_heard()
+    ensures { CompleteByHeard }
+{}
+
+/// The law of orders: in whichever order symbols of a file are heard, and however often, the same blocks are complete,
+/// and where all are, the file is the one that was sent. It does nothing.
+pub fn two_orders_one_file()
+    ensures { TwoOrdersOneFile }
 {}

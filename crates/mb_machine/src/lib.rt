@@ -13,7 +13,8 @@ mod report;
 pub use drops::Drops;
 pub use happened::Happened;
 pub use laws::{
-    handed_out_once, honest_files_are_sent, no_life_is_past, ready_lives_go_one_by_one,
+    complete_by_heard, handed_out_once, honest_files_are_sent, no_life_is_past,
+    ready_lives_go_one_by_one, two_orders_one_file,
 };
 pub use reason::Reason;
 pub use report::{Entered, InstanceReport};

@@ -1,7 +1,10 @@
 -- The place of a life that is ready, and its hand-out.
-use Rattle.std.proofs.Common.{◌≡◌, ℕ, zero, suc, ◌<◌, ◌==◌, Bool, true, false, List, [], ◌∷◌, length, get_or, set, position, None, Some, refl, sym, ap, ◌∙◌, arith}
+use Rattle.std.proofs.Common.{◌≡◌, ℕ, zero, suc, ◌<◌, ◌==◌, ◌&&◌, not, Bool, true, false, List, [], ◌∷◌, length, get_or, set, position, None, Some, refl, sym, ap, ◌∙◌, arith}
 use Rattle.std.proofs.lemmas.Grind.{common_steps}
-use Rattle.mb_life.specs.Life.{Life, is_ready, hand_out}
+use Rattle.std.proofs.lemmas.Bool.{and_parts, not-true}
+use Rattle.mb_way.specs.Ways.{AreWaysOf}
+use Rattle.mb_file.specs.File.{are_complete}
+use Rattle.mb_life.specs.Life.{Life, is_wrongly_empty, is_ready, hand_out}
 use Rattle.mb_life.specs.Taking.{IsTaken}
 use Rattle.mb_life.specs.declared.taken.Taken.{Taken}
 use Rattle.mb_machine.specs.Table.{Table, life_of}
@@ -10,6 +13,14 @@ use Rattle.mb_objects.proofs.PlaceLemmas.{at-position, life_of-at, life_of-none,
 
 pub ready-none : (toi : ℕ) (lives : List Life) → position (λ life. life.toi == toi) lives ≡ None → if_ready (life_of toi lives) ≡ None
 ready-none toi lives none = ap if_ready (life_of-none toi lives none)
+
+-- a life that wasn't handed out has the ways of its description
+abbrev pub HasWays : Life → Type 0
+HasWays life = life.done ≡ false → AreWaysOf life.desc life.ways
+
+-- and a ready one wasn't
+pub ways-of-ready : (life : Life) → HasWays life → is_ready life ≡ true → AreWaysOf life.desc life.ways
+ways-of-ready life ways ready = ways (not-true life.done (and_parts (not life.done) (not (is_wrongly_empty life.desc) && are_complete life.ways life.kept) ready).0)
 
 -- what is known of the life at a place in the list that stands in memory, and is seen as another list
 pub record StandsAt (lives seen : List Life) (place : ℕ) (life : Life) (ready : Bool) : Type 0 where

@@ -9,10 +9,12 @@ use Rattle.mb_geom.specs.declared.desc.Scheme.TheVariants.{NoCode, Raptor}
 use Rattle.mb_geom.specs.Partition.{ceiling}
 use Rattle.mb_alc.specs.Packet.{Packet, Body}
 use Rattle.mb_window.specs.Symbols.{symbol_count}
-use Rattle.mb_block.specs.Block.{Pair}
-use Rattle.mb_life.specs.Life.{Life, way_in, kept_in, hear_pairs, hear_in_block}
+use Rattle.mb_encoder.specs.Solutions.{Pair}
+use Rattle.mb_way.specs.Heard.{hear_pairs}
+use Rattle.mb_way.proofs.SizeLemmas.{size-allowed}
+use Rattle.mb_file.proofs.RunLemmas.{length-pairs_from}
+use Rattle.mb_life.specs.Life.{Life, way_in, kept_in, hear_in_block}
 use Rattle.mb_life.specs.Hearing.{CanHear, hear_payload}
-use Rattle.mb_life.proofs.RunLemmas.{length-pairs_from}
 use Rattle.mb_machine.specs.Table.{Table, life_of, change_life}
 use Rattle.mb_machine.specs.Packets.{Stepped, esi_end, is_past_block, symbols_refused, object_reason, pairs_of, news, hear_unless, hear_object}
 use Rattle.mb_machine.specs.declared.reason.Reason.{Reason}
@@ -20,7 +22,6 @@ use Rattle.mb_machine.specs.declared.reason.Reason.TheVariants as reason
 use Rattle.mb_machine.specs.declared.happened.Happened.TheVariants.{Dropped, Heard}
 use Rattle.mb_geom.proofs.PartitionLemmas.{ceiling-le}
 use Rattle.mb_geom.proofs.LayoutLemmas.{sum-block_sizes}
-use Rattle.mb_block.proofs.WayLemmas.{size-allowed}
 use Rattle.mb_machine.proofs.HandOutLemmas.{found_passes}
 use Rattle.mb_objects.specs.Stepping.{Steps}
 use Rattle.mb_objects.proofs.PlaceLemmas.{IsLifeAt, life_of-at, life_of-none, change_life-at}
@@ -83,7 +84,7 @@ same-step t a b m n sbn k l x y lives toi kept rest = rw (lives, toi, kept, rest
 news-are : (life : Life) (sbn : ℕ) (pairs : List Pair) → sbn < length life.kept
     → news life sbn pairs ≡ length (kept_in sbn (hear_in_block sbn pairs life)) - length (kept_in sbn life)
 news-are life sbn pairs there =
-    ap (λ (ps : List Pair). length ps - length (kept_in sbn life)) (sym (get_or-set_same life.kept sbn (hear_pairs (way_in life.desc sbn) (kept_in sbn life) pairs) [] there))
+    ap (λ (ps : List Pair). length ps - length (kept_in sbn life)) (sym (get_or-set_same life.kept sbn (hear_pairs (way_in sbn life) (kept_in sbn life) pairs) [] there))
 
 pub heard-object : (toi : ℕ) (lives new : List Life) (p : Packet) (body : Body) (t : Table) (life d : Life) (place kept determined : ℕ) → IsLifeAt toi lives place life
     → place < length lives → object_reason life p body ≡ None → body.sbn < length life.kept → new ≡ set lives place (hear_payload body.sbn body.esi body.payload life)

@@ -6,7 +6,6 @@ use Rattle.std.proofs.lemmas.Bool.{cases_Bool}
 use Rattle.std.proofs.lemmas.Bool.Decides.{nat_tests}
 use Rattle.std.proofs.lemmas.Grind.{common_steps}
 use Rattle.mb_life.specs.Life.{Life, is_ready, prolong, hand_out}
-use Rattle.mb_geom.specs.Description.{Description, IsGood}
 use Rattle.mb_life.specs.Hearing.{hear_payload}
 use Rattle.mb_machine.specs.Table.{is_past, lives_most}
 use Rattle.mb_objects.proofs.CountLemmas.{count-push, count-some, count-most}
@@ -140,11 +139,12 @@ filter_same p q (life ∷ lives) same = rw (same life, filter_same p q lives sam
 pub name-handed : (old new : Life) → new ≡ hand_out old → IsSameName old new
 name-handed old new is = record { toi = ap (λ (l : Life). l.toi) is; expires = ap (λ (l : Life). l.expires) is }
 
-pub good-at : (lives seen : List Life) (place : ℕ) (now d : Life) → lives ≡ seen → place < length seen → now ≡ get_or lives place now → (desc : Description) → desc ≡ now.desc → IsGood desc
-    → IsGood (get_or seen place d).desc
-good-at lives seen place now d same within at desc is good =
+-- what holds of the life at the place in memory holds of the one that is seen
+pub holds-at : (P : Life → Type 0) (lives seen : List Life) (place : ℕ) (now d : Life) → lives ≡ seen → place < length seen → now ≡ get_or lives place now → P now
+    → P (get_or seen place d)
+holds-at P lives seen place now d same within at holds =
     let here : get_or seen place d ≡ now = grind (arith, common_steps, within) ∙ sym (at ∙ ap (λ (xs : List Life). get_or xs place now) same) in
-    subst (λ (x : Description). IsGood x) (is ∙ ap (λ (l : Life). l.desc) (sym here)) good
+    subst P (sym here) holds
 
 pub apart-left : (clock : ℕ) (lives left lent : List Life) → AreApart lives → left ≡ filter (λ life. not (is_past clock life)) lives → lent ≡ left → AreApart lent
 apart-left clock lives left lent apart is same = rw (same, is) (apart-filter (λ life. not (is_past clock life)) lives apart)

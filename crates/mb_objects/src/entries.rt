@@ -9,8 +9,10 @@ use crate::lives::Lives;
 use mb_base::Memory;
 use mb_fdt::{FileEntries, FileEntry};
 use mb_geom::Desc;
-use mb_life::{Life, has_ways};
+use mb_life::Life;
 use mb_machine::{Entered, InstanceReport};
+use mb_way::Codes;
+use std::alloc::Global;
 
 /// How many lives stand at once at most.
 const LIVES_MAX: usize = 1_024;
@@ -67,6 +69,8 @@ fn is_full(count: usize, need: &Need, desc: &Desc) -> bool
 
 /// Starts a life of a TOI that has none, unless a block size has no row or a limit would be passed.
 fn start_file(
+    alloc: Global,
+    codes: &mut Codes,
     lives: &mut Lives,
     need: &mut Need,
     expires: u64,
@@ -76,18 +80,20 @@ fn start_file(
     requires new { position (λ life. life.toi == toi) lives.old ≡ None }
     requires need { IsNeed need.old.plain need.old.equations lives.old }
     requires small { need.old.plain ≤ 2 ^ 58 × need.old.equations ≤ 2 ^ 58 }
-    ensures started { IfOk result (λ e. with_description expires toi desc None lives.old ≡ (lives.new, e)) }
+    ensures started { IfOk result (λ e. with_description codes.old expires toi desc None lives.old ≡ (lives.new, e)) }
+    ensures tables { codes.new ≡ codes.old }
     ensures need { IfOk result (λ _. IsNeed need.new.plain need.new.equations lives.new) }
     ensures small { need.new.plain ≤ 2 ^ 58 × need.new.equations ≤ 2 ^ 58 }
 {
-    if !has_ways(&desc) {
+    if !codes.has_ways(&desc) {
         return Ok(Entered::NoRow);
     }
     if is_full(lives.as_slice().len(), need, &desc) {
         return Ok(Entered::Full);
     }
+    let ways = codes.ways(alloc, &desc)?;
     let (plain, equations) = (desc.plain(), desc.equations());
-    let life = Life::start(expires, toi, desc);
+    let life = Life::start(expires, toi, desc, ways);
     lives.start(life)?;
     need.plain += plain;
     need.equations += equations;
@@ -96,6 +102,8 @@ fn start_file(
 
 /// Starts a life, or prolongs the one that stands under the same description.
 fn add_file(
+    alloc: Global,
+    codes: &mut Codes,
     lives: &mut Lives,
     need: &mut Need,
     expires: u64,
@@ -104,12 +112,13 @@ fn add_file(
 ) -> Result<Entered, Memory>
     requires need { IsNeed need.old.plain need.old.equations lives.old }
     requires small { need.old.plain ≤ 2 ^ 58 × need.old.equations ≤ 2 ^ 58 }
-    ensures added { IfOk result (λ e. with_description expires toi desc (life_of toi lives.old) lives.old ≡ (lives.new, e)) }
+    ensures added { IfOk result (λ e. with_description codes.old expires toi desc (life_of toi lives.old) lives.old ≡ (lives.new, e)) }
+    ensures tables { codes.new ≡ codes.old }
     ensures need { IfOk result (λ _. IsNeed need.new.plain need.new.equations lives.new) }
     ensures small { need.new.plain ≤ 2 ^ 58 × need.new.equations ≤ 2 ^ 58 }
 {
     let Some(place) = lives.place(toi) else {
-        return start_file(lives, need, expires, toi, desc);
+        return start_file(alloc, codes, lives, need, expires, toi, desc);
     };
     if !lives.as_slice()[place].desc().is_same(&desc) {
         return Ok(Entered::Conflicting);
@@ -121,6 +130,8 @@ fn add_file(
 /// Acts on an entry of an instance that stands up to `expires`.
 #[tactic(auto, unfolding(mb_machine::specs::Entries::with_entry))]
 fn add_entry(
+    alloc: Global,
+    codes: &mut Codes,
     lives: &mut Lives,
     need: &mut Need,
     expires: u64,
@@ -128,12 +139,13 @@ fn add_entry(
 ) -> Result<Entered, Memory>
     requires need { IsNeed need.old.plain need.old.equations lives.old }
     requires small { need.old.plain ≤ 2 ^ 58 × need.old.equations ≤ 2 ^ 58 }
-    ensures added { IfOk result (λ e. with_entry expires lives.old entry.toi entry.entry ≡ (lives.new, e)) }
+    ensures added { IfOk result (λ e. with_entry codes.old expires lives.old entry.toi entry.entry ≡ (lives.new, e)) }
+    ensures tables { codes.new ≡ codes.old }
     ensures need { IfOk result (λ _. IsNeed need.new.plain need.new.equations lives.new) }
     ensures small { need.new.plain ≤ 2 ^ 58 × need.new.equations ≤ 2 ^ 58 }
 {
     match (entry.toi, entry.entry) {
-        (Some(toi), Ok(desc)) => add_file(lives, need, expires, toi, desc),
+        (Some(toi), Ok(desc)) => add_file(alloc, codes, lives, need, expires, toi, desc),
         (_, _) => Ok(Entered::Refused),
     }
 }
@@ -156,16 +168,22 @@ fn entered(report: InstanceReport, entry: Entered) -> InstanceReport
 
 /// Acts on the entries of an instance that stands up to `expires`, in order. After `Memory` some may have acted.
 pub fn add_files(
+    alloc: Global,
+    codes: &mut Codes,
     lives: &mut Lives,
     expires: u64,
     files: FileEntries,
 ) -> Result<InstanceReport, Memory>
-    ensures added { IfOk result (λ report. with_instance expires files lives.old ≡ record { lives = lives.new; report = report }) }
+    ensures added { IfOk result (λ report. with_instance codes.old expires files lives.old ≡ record { lives = lives.new; report = report }) }
+    ensures tables { codes.new ≡ codes.old }
 {
     let mut need = needed(lives.as_slice());
     let mut report = EMPTY;
     for entry in files.into_vec() {
-        report = entered(report, add_entry(lives, &mut need, expires, entry)?);
+        report = entered(
+            report,
+            add_entry(alloc, codes, lives, &mut need, expires, entry)?,
+        );
     }
     Ok(report)
 }

@@ -46,7 +46,11 @@ impl Model for Lives {
 fn ready_among(lives: &[Life]) -> usize
     ensures { result ≡ length (filter is_ready lives.now) }
 {
-    lives.iter().filter(|life| life.is_ready()).count()
+    let mut ready = 0;
+    for life in lives {
+        ready += usize::from(life.is_ready());
+    }
+    ready
 }
 
 /// The first moment at which a life ends.
@@ -187,7 +191,7 @@ impl Lives {
     }
 
     /// Hears the symbols of a payload in a block of the life at a place, the first of which has this ESI. It takes
-    /// memory only for a file of which nothing was heard. After `Memory` the lives are as before.
+    /// memory only for the first symbol of a block or of the file. After `Memory` the lives are as before.
     pub fn hear(
         &mut self,
         alloc: Global,
@@ -252,7 +256,7 @@ impl Lives {
     pub fn buffered(&self) -> u64
         ensures most { result ≤ needed (λ d. plain d + equations d) self.now }
         ensures least { lives_held self.now ≤ result }
-        ensures small { result ≤ 2 ^ 40 }
+        ensures small { result ≤ 2 ^ 60 }
     {
         let mut bytes = 0;
         for life in &self.items {

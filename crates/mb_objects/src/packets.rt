@@ -12,6 +12,7 @@ use mb_alc::{Body, Fti, Packet};
 use mb_base::Memory;
 use mb_fdt::read_fdt;
 use mb_machine::{Happened, Reason};
+use mb_way::Codes;
 use mb_window::{Window, WindowHeard};
 use std::alloc::Global;
 
@@ -19,13 +20,15 @@ use std::alloc::Global;
 fn read_instance(
     alloc: Global,
     window: &mut Window,
+    codes: &mut Codes,
     lives: &mut Lives,
     clock: u64,
     id: u32,
     fti: Option<&Fti>,
     text: &[u8],
 ) -> Result<Happened, Memory>
-    ensures { IfOk result (λ h. (t : Table) → t.clock ≡ clock → Steps t (read_instance id (option_map (λ f. f.now) fti.entry) (fdt_of text.now) (holding t window.old lives.old)) window.new lives.new h) }
+    ensures step { IfOk result (λ h. (t : Table) → t.tables ≡ codes.old → t.clock ≡ clock → Steps t (read_instance id (option_map (λ f. f.now) fti.entry) (fdt_of text.now) (holding t window.old lives.old)) window.new lives.new h) }
+    ensures tables { codes.new ≡ codes.old }
 {
     match read_fdt(alloc, text)? {
         Err(fault) => {
@@ -38,7 +41,7 @@ fn read_instance(
         }
         Ok(fdt) => {
             window.settle(id, fti, fdt.expires);
-            let report = add_files(lives, fdt.expires, fdt.files)?;
+            let report = add_files(alloc, codes, lives, fdt.expires, fdt.files)?;
             Ok(Happened::Instance { id, report })
         }
     }
@@ -48,18 +51,20 @@ fn read_instance(
 fn hear_in_window(
     alloc: Global,
     window: &mut Window,
+    codes: &mut Codes,
     lives: &mut Lives,
     clock: u64,
     id: u32,
     fti: Option<&Fti>,
     body: &Body<'_>,
 ) -> Result<Happened, Memory>
-    ensures { IfOk result (λ h. (t : Table) → t.clock ≡ clock → Steps t (hear_in_window id (option_map (λ f. f.now) fti.entry) (body_seen body.now) (holding t window.old lives.old)) window.new lives.new h) }
+    ensures step { IfOk result (λ h. (t : Table) → t.tables ≡ codes.old → t.clock ≡ clock → Steps t (hear_in_window id (option_map (λ f. f.now) fti.entry) (body_seen body.now) (holding t window.old lives.old)) window.new lives.new h) }
+    ensures tables { codes.new ≡ codes.old }
 {
     let reason = match window.hear(id, fti, body)? {
         WindowHeard::Part => return Ok(Happened::Part { id }),
         WindowHeard::Whole { text } => {
-            return read_instance(alloc, window, lives, clock, id, fti, text.as_slice());
+            return read_instance(alloc, window, codes, lives, clock, id, fti, text.as_slice());
         }
         WindowHeard::NoIds => Reason::FdtWithoutIds,
         WindowHeard::Shape => Reason::FdtShape,
@@ -83,12 +88,14 @@ fn is_encoded(algorithm: Option<u8>) -> bool
 fn hear_fdt(
     alloc: Global,
     window: &mut Window,
+    codes: &mut Codes,
     lives: &mut Lives,
     clock: u64,
     packet: &Packet<'_>,
     body: &Body<'_>,
 ) -> Result<Happened, Memory>
-    ensures { IfOk result (λ h. (t : Table) → t.clock ≡ clock → Steps t (hear_fdt (packet_seen packet.now) (body_seen body.now) packet.now.exts.fdt (holding t window.old lives.old)) window.new lives.new h) }
+    ensures step { IfOk result (λ h. (t : Table) → t.tables ≡ codes.old → t.clock ≡ clock → Steps t (hear_fdt (packet_seen packet.now) (body_seen body.now) packet.now.exts.fdt (holding t window.old lives.old)) window.new lives.new h) }
+    ensures tables { codes.new ≡ codes.old }
 {
     let exts = &packet.exts;
     let Some(id) = exts.fdt else {
@@ -103,7 +110,16 @@ fn hear_fdt(
     if packet.lct.cp != 0 {
         return Ok(Happened::Dropped(Reason::CodePointDiffers));
     }
-    hear_in_window(alloc, window, lives, clock, id, exts.fti.as_ref(), body)
+    hear_in_window(
+        alloc,
+        window,
+        codes,
+        lives,
+        clock,
+        id,
+        exts.fti.as_ref(),
+        body,
+    )
 }
 
 /// Hears a packet of an object.
@@ -143,12 +159,14 @@ pub struct Session {
 pub fn hear_packet(
     alloc: Global,
     window: &mut Window,
+    codes: &mut Codes,
     lives: &mut Lives,
     session: Session,
     packet: &Packet<'_>,
 ) -> Result<Happened, Memory>
-    ensures { IfOk result (λ h. (t : Table) → t.tsi ≡ session.tsi → t.clock ≡ session.clock → t.closed ≡ session.closed
+    ensures step { IfOk result (λ h. (t : Table) → t.tsi ≡ session.tsi → t.tables ≡ codes.old → t.clock ≡ session.clock → t.closed ≡ session.closed
         → Steps t (hear_packet (packet_seen packet.now) (holding t window.old lives.old)) window.new lives.new h) }
+    ensures tables { codes.new ≡ codes.old }
 {
     if session.closed {
         return Ok(Happened::Dropped(Reason::Closed));
@@ -163,7 +181,7 @@ pub fn hear_packet(
         return Ok(Happened::Dropped(Reason::NoBody));
     };
     if toi == 0 {
-        hear_fdt(alloc, window, lives, session.clock, packet, &body)
+        hear_fdt(alloc, window, codes, lives, session.clock, packet, &body)
     } else {
         hear_object(alloc, lives, toi, packet, &body)
     }

@@ -13,6 +13,8 @@ use mb_alc::Packet;
 use mb_base::{Gate, Memory};
 use mb_life::{Life, Taken};
 use mb_machine::Happened;
+use mb_tables::Tables;
+use mb_way::Codes;
 use mb_window::Window;
 use std::alloc::Global;
 use std::marker::Model;
@@ -32,6 +34,7 @@ pub enum TakeFault {
 pub struct Table {
     alloc: Global,
     tsi: u64,
+    codes: Codes,
     clock: u64,
     closed: bool,
     window: Window,
@@ -44,7 +47,7 @@ impl Model for Table {
 
     ghost Value = { Table };
 
-    ghost view = { λ t. record { tsi = t.tsi; clock = t.clock; closed = t.closed; slots = t.window; lives = t.lives; expired = t.expired } };
+    ghost view = { λ t. record { tsi = t.tsi; tables = t.codes; clock = t.clock; closed = t.closed; slots = t.window; lives = t.lives; expired = t.expired } };
 }
 
 /// Whether a packet closes the session with this TSI.
@@ -54,17 +57,29 @@ fn closes(tsi: u64, packet: &Packet<'_>) -> bool
     packet.lct.tsi == tsi && packet.lct.close_session
 }
 
+/// Gives the codes up that no life has, where fewer lives stand than before. A packet that ends none does no more than
+/// compare.
+fn forget_where_fewer(codes: &mut Codes, before: usize, after: usize)
+    ensures { codes.new ≡ codes.old }
+{
+    if after < before {
+        codes.forget_unused();
+    }
+}
+
 impl Table {
-    /// The table of the session with this TSI, which has heard nothing. `Memory` where there is no room for its window
-    /// and its index.
-    pub fn new(alloc: Global, tsi: u64) -> Result<Table, Memory>
-        ensures { IfOk result (λ table. table ≡ fresh tsi) }
+    /// The table of the session with this TSI, which has heard nothing, over the tables of the Raptor code. `Memory`
+    /// where there is no room for its window and its index.
+    pub fn new(alloc: Global, tsi: u64, tables: Tables) -> Result<Table, Memory>
+        ensures { IfOk result (λ table. table ≡ fresh tsi tables) }
     {
+        let codes = Codes::new(alloc, tables);
         let window = Window::new(alloc)?;
         let lives = Lives::new(alloc)?;
         Ok(Table {
             alloc,
             tsi,
+            codes,
             clock: 0,
             closed: false,
             window,
@@ -80,12 +95,15 @@ impl Table {
     {
         self.clock = self.clock.max(at);
         self.window.expire(self.clock);
+        let before = self.lives.as_slice().len();
         self.expired = self.expired.saturating_add(self.lives.expire(self.clock));
+        forget_where_fewer(&mut self.codes, before, self.lives.as_slice().len());
     }
 
     /// Moves the clock to the NTP second `at`, and hears a packet of that moment, or drops it for the first reason that
     /// holds. A packet of the session with Close Session closes it, also where it is dropped. It takes memory only for
-    /// an FDT Instance, and for a file of which nothing was heard. After `Memory` an instance may have acted in part.
+    /// an FDT Instance, and for a block or a file of which nothing was heard. After `Memory` an instance may have acted
+    /// in part.
     pub fn packet(&mut self, at: u64, packet: &Packet<'_>) -> Result<Happened, Memory>
         ensures { IfOk result (λ happened. packets.packet at (packet_seen packet.now) self.old ≡ record { table = self.new; happened = happened }) }
     {
@@ -98,6 +116,7 @@ impl Table {
         let happened = hear_packet(
             self.alloc,
             &mut self.window,
+            &mut self.codes,
             &mut self.lives,
             session,
             packet,
@@ -164,6 +183,7 @@ impl Table {
         let Ok(taken) = self.lives.take(rt, self.alloc, place, workers, gate) else {
             return Err(TakeFault::Memory);
         };
+        self.codes.forget_unused();
         Ok(taken)
     }
 

@@ -3,11 +3,33 @@ use crate::{Happened, InstanceReport, Reason, Table, Taken};
 use mb_alc::{Body, Exts, Fti, Packet};
 use mb_base::OpenGate;
 use mb_lct::Lct;
+use mb_tables::Tables;
+use std::alloc::Global;
 use std::process::Abort;
 
 /// An instance with two files of seven bytes, in blocks of two symbols and one.
 const TEXT: &str =
     "<FDT-Instance Expires=\"100\" FEC-OTI-FEC-Encoding-ID=\"0\" FEC-OTI-Maximum-Source-Block-Length=\"2\" FEC-OTI-Encoding-Symbol-Length=\"3\" Content-Length=\"7\"><File TOI=\"5\" Content-Location=\"a\" Content-Length=\"7\"/><File TOI=\"6\" Content-Location=\"b\" Content-Length=\"7\"/></FDT-Instance>";
+
+/// An instance with two files of five symbols, one under Raptor in one block, and one under Compact No-Code.
+const RAPTOR_TEXT: &str =
+    "<FDT-Instance Expires=\"100\" FEC-OTI-Encoding-Symbol-Length=\"4\"><File TOI=\"5\" Content-Location=\"a\" Content-Length=\"20\" FEC-OTI-FEC-Encoding-ID=\"1\" FEC-OTI-Scheme-Specific-Info=\"AAEBBA==\"/><File TOI=\"6\" Content-Location=\"b\" Content-Length=\"20\" FEC-OTI-FEC-Encoding-ID=\"0\" FEC-OTI-Maximum-Source-Block-Length=\"2\"/></FDT-Instance>";
+
+/// An instance that did nothing.
+const NOTHING: InstanceReport = InstanceReport {
+    started: 0,
+    prolonged: 0,
+    conflicting: 0,
+    refused: 0,
+    norow: 0,
+    full: 0,
+};
+
+/// A table that has heard nothing, whose tables have no row.
+fn started(rt: &impl Abort, alloc: Global) -> Table {
+    let tables = Tables::none(alloc).expect(rt, "memory");
+    Table::new(alloc, 1, tables).expect(rt, "memory")
+}
 
 fn packet(toi: u128, exts: Exts, (sbn, esi): (u16, u16), payload: &[u8]) -> Packet<'_> {
     Packet {
@@ -27,9 +49,9 @@ fn heard(rt: &impl Abort, table: &mut Table, at: u64, packet: &Packet<'_>) -> Ha
     table.packet(at, packet).expect(rt, "memory")
 }
 
-/// Hears both symbols of the instance's text, the second one first.
-fn describe(rt: &impl Abort, table: &mut Table) {
-    let text = TEXT.as_bytes();
+/// Hears both symbols of an instance's text, the second one first.
+fn describe(rt: &impl Abort, table: &mut Table, text: &str, report: InstanceReport) {
+    let text = text.as_bytes();
     assert!(rt; text.len() > 200 && text.len() <= 400);
     let (front, back) = text.split_at(200);
     let exts = Exts {
@@ -44,22 +66,18 @@ fn describe(rt: &impl Abort, table: &mut Table) {
     };
     let part = heard(rt, table, 50, &packet(0, exts, (0, 1), back));
     assert!(rt; part == Happened::Part { id: 9 });
-    let report = InstanceReport {
-        started: 2,
-        prolonged: 0,
-        conflicting: 0,
-        refused: 0,
-        norow: 0,
-        full: 0,
-    };
     let whole = heard(rt, table, 50, &packet(0, exts, (0, 0), front));
     assert!(rt; whole == Happened::Instance { id: 9, report });
 }
 
 #[test]
 fn a_file_is_received_and_another_expires(rt: HostRuntime) {
-    let mut table = Table::new(rt.alloc(), 1).expect(&rt, "memory");
-    describe(&rt, &mut table);
+    let mut table = started(&rt, rt.alloc());
+    let report = InstanceReport {
+        started: 2,
+        ..NOTHING
+    };
+    describe(&rt, &mut table, TEXT, report);
     let rows = [
         ((1, 0), "gxx", (1, 0)),
         ((0, 1), "def", (1, 0)),
@@ -94,4 +112,18 @@ fn a_file_is_received_and_another_expires(rt: HostRuntime) {
     assert!(rt; table.lives().len() == 2 && table.expired() == 0);
     table.tick(101);
     assert!(rt; table.lives().len() == 0 && table.expired() == 1);
+}
+
+#[test]
+fn a_file_under_raptor_without_a_row_is_norow(rt: HostRuntime) {
+    let mut table = started(&rt, rt.alloc());
+    let report = InstanceReport {
+        started: 1,
+        norow: 1,
+        ..NOTHING
+    };
+    describe(&rt, &mut table, RAPTOR_TEXT, report);
+    assert!(rt; table.lives().len() == 1 && table.lives()[0].toi() == 6);
+    let heard = heard(&rt, &mut table, 50, &packet(5, Exts::NONE, (0, 0), b"abcd"));
+    assert!(rt; heard == Happened::Dropped(Reason::Unknown));
 }

@@ -1,7 +1,9 @@
 //! Each call with ample memory, and printing to a sink that fails.
 
-use crate::{Texts, arguments_of, broken_line, print, refuse};
-use mb_base::{Bytes, MemSink};
+use crate::{FileSource, Texts, arguments_of, broken_line, print, refuse, tables_line};
+use mb_base::{Bytes, Failed, MemSink, Source};
+use mb_tables::TablesFault;
+use std::fs;
 use std::process::Abort;
 use std::test::Fail;
 
@@ -63,5 +65,44 @@ fn texts_are_kept_in_order(rt: HostRuntime) -> Result<(), Fail> {
 #[test]
 fn arguments_find_room(rt: HostRuntime) -> Result<(), Fail> {
     assert!(rt; arguments_of(&rt).is_ok());
+    Ok(())
+}
+
+#[test]
+fn refused_tables_have_a_line_for_each_fault(rt: HostRuntime) -> Result<(), Fail> {
+    let cases = [
+        (TablesFault::Magic, "tables 1\n"),
+        (TablesFault::Truncated(2_057), "tables 2 2057\n"),
+        (TablesFault::Order(65_535), "tables 3 65535\n"),
+        (TablesFault::Range(7, 3), "tables 4 7 3\n"),
+        (TablesFault::Trailing, "tables 5\n"),
+        (TablesFault::SourceFault, ""),
+    ];
+    for (fault, line) in cases {
+        assert_eq!(rt; tables_line(rt.alloc(), fault)?.as_str(), line);
+    }
+    Ok(())
+}
+
+/// What the first read of a source gives.
+fn first_read<S: Source>(source: &mut S, buf: &mut [u8]) -> Result<usize, Failed> {
+    source.read(buf)
+}
+
+#[test]
+fn a_named_file_is_read_or_fails(rt: HostRuntime) -> Result<(), Fail> {
+    let mut buf = [0; 8];
+    fs::write(&rt, "named", b"hello")?;
+    let mut named = FileSource::open(&rt, rt.alloc(), b"named")?;
+    assert_eq!(rt; first_read(&mut named, &mut buf)?, 5);
+    assert_eq!(rt; buf[..5], b"hello"[..]);
+    assert_eq!(rt; first_read(&mut named, &mut buf)?, 0);
+    fs::remove_file(&rt, "named")?;
+    for path in [b"missing".as_slice(), b"no\xfftext", b""] {
+        let mut missing = FileSource::open(&rt, rt.alloc(), path)?;
+        assert!(rt; first_read(&mut missing, &mut buf).is_err());
+    }
+    named = FileSource::nothing();
+    assert_eq!(rt; first_read(&mut named, &mut buf)?, 0);
     Ok(())
 }

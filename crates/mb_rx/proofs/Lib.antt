@@ -8,3 +8,4 @@ pub mod Printing
 pub mod RunLemmas
 pub mod Faultless
 pub mod WordLemmas
+pub mod TableLemmas

@@ -8,6 +8,7 @@ use Rattle.mb_life.specs.Life.{Life, is_ready, is_damaged}
 use Rattle.mb_machine.specs.Laws.{file_of}
 use Rattle.mb_machine.specs.declared.happened.Happened.{Happened}
 use Rattle.mb_machine.specs.declared.happened.Happened.TheVariants.{Dropped, Part, Instance, BadInstance, LateInstance, Heard}
+use Rattle.mb_tables.specs.Tables.{RaptorTables}
 use Rattle.mb_rx.specs.Receiver.{step}
 use Rattle.mb_rx.specs.Run.{Event, Session, after_record, session, packet_events, taken_events, hand_out_events}
 use Rattle.mb_rx.specs.declared.words.RxWords.{RxWords}
@@ -83,30 +84,30 @@ put_among (first ∷ lives) life h ready whole =
     ]
 
 -- the file of the ready life was put by the record after which it was ready
-put_by_then : (tsi : ℕ) (before after : List Record) (heard : Record) (life : Life)
-    → Contains (step (session tsi before).receiver heard).receiver.table.lives life → is_ready life ≡ true → is_damaged life ≡ false
-    → Contains (puts_in (session tsi (before ++ heard ∷ after)).events) (file_of life)
-put_by_then tsi before after heard life h ready whole =
-    let was = session tsi before in
+put_by_then : (tsi : ℕ) (tables : RaptorTables) (before after : List Record) (heard : Record) (life : Life)
+    → Contains (step (session tsi tables before).receiver heard).receiver.table.lives life → is_ready life ≡ true → is_damaged life ≡ false
+    → Contains (puts_in (session tsi tables (before ++ heard ∷ after)).events) (file_of life)
+put_by_then tsi tables before after heard life h ready whole =
+    let was = session tsi tables before in
     let made = events_at was heard in
     let r = events_grow (after_record was heard) after in
-    let now : (session tsi (before ++ heard ∷ after)).events ≡ (was.events ++ made) ++ r.0
-    = ap (λ (s : Session). s.events) (session-append tsi before (heard ∷ after)) ∙ r.1 in
+    let now : (session tsi tables (before ++ heard ∷ after)).events ≡ (was.events ++ made) ++ r.0
+    = ap (λ (s : Session). s.events) (session-append tsi tables before (heard ∷ after)) ∙ r.1 in
     let P : List File → Type 0 = λ files. Contains files (file_of life) in
     let here : Contains (puts_in made) (file_of life)
     = subst P (sym (puts_in-record was heard)) (put_among (step was.receiver heard).receiver.table.lives life h ready whole) in
     let files = puts_in was.events in
-    let parts : puts_in (session tsi (before ++ heard ∷ after)).events ≡ (files ++ puts_in made) ++ puts_in r.0
+    let parts : puts_in (session tsi tables (before ++ heard ∷ after)).events ≡ (files ++ puts_in made) ++ puts_in r.0
     = ap puts_in now ∙ puts_in-append (was.events ++ made) r.0 ∙ ap (λ xs. xs ++ puts_in r.0) (puts_in-append was.events made) in
     subst P (sym parts) (Contains-append_left (files ++ puts_in made) (puts_in r.0) (file_of life) (Contains-append_right files (puts_in made) (file_of life) here))
 
 -- each life that became ready, after whichever record, has its file put
-pub each_ready_is_put : (words : RxWords) (records : List Record) (ending : Option Ending) → PutsEachReady words.tsi records (puts_in (events_by words records ending))
-each_ready_is_put words records ending before after heard life split h ready whole =
+pub each_ready_is_put : (words : RxWords) (tables : RaptorTables) (records : List Record) (ending : Option Ending) → PutsEachReady words.tsi tables records (puts_in (events_by words tables records ending))
+each_ready_is_put words tables records ending before after heard life split h ready whole =
     let P : List File → Type 0 = λ files. Contains files (file_of life) in
-    let s = session words.tsi records in
-    let closing = closing_events words records ending in
+    let s = session words.tsi tables records in
+    let closing = closing_events words tables records ending in
     let there : Contains (puts_in s.events) (file_of life)
-    = rw split (put_by_then words.tsi before after heard life h ready whole) in
-    subst P (sym (ap puts_in (events_by-session words records ending) ∙ puts_in-append s.events closing))
+    = rw split (put_by_then words.tsi tables before after heard life h ready whole) in
+    subst P (sym (ap puts_in (events_by-session words tables records ending) ∙ puts_in-append s.events closing))
     (Contains-append_left (puts_in s.events) (puts_in closing) (file_of life) there)

@@ -1,4 +1,5 @@
 pub mod Words
+pub mod Tables
 pub mod Receiver
 pub mod Lines
 pub mod Run

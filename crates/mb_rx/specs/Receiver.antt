@@ -6,6 +6,7 @@ use Rattle.mb_alc.specs.Words.{kind_of}
 use Rattle.mb_alc.specs.declared.fault.PacketFault.{PacketFault}
 use Rattle.mb_alc.specs.declared.fault.FaultKind.{FaultKind}
 use Rattle.mb_alc.specs.declared.fault.FaultKind.TheVariants as kind
+use Rattle.mb_tables.specs.Tables.{RaptorTables}
 use Rattle.mb_machine.specs.Table as machine
 use Rattle.mb_machine.specs.Table.{Table, tick}
 use Rattle.mb_machine.specs.Packets.{packet}
@@ -37,8 +38,8 @@ no_faults = record {
 }
 
 -- before anything is heard
-abbrev pub fresh : ℕ → Receiver
-fresh tsi = record { table = machine.fresh tsi; faults = no_faults; drops = no_drops }
+abbrev pub fresh : ℕ → RaptorTables → Receiver
+fresh tsi tables = record { table = machine.fresh tsi tables; faults = no_faults; drops = no_drops }
 
 abbrev pub counted_fault : FaultKind → Faults → Faults
 counted_fault kind.Short f = record f { short = raised f.short }

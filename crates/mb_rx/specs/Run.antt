@@ -4,6 +4,7 @@ use Rattle.std.specs.List.{list_all}
 use Rattle.mb_base.specs.Files.{File}
 use Rattle.mb_base.specs.Broadcast.{Record}
 use Rattle.md5.specs.Md5.{md5}
+use Rattle.mb_tables.specs.Tables.{RaptorTables}
 use Rattle.mb_life.specs.Life.{Life, is_ready, is_damaged, bytes_of, missing}
 use Rattle.mb_machine.specs.Laws.{file_of, with_hand_outs}
 use Rattle.mb_machine.specs.Counts.{reasons, drop_count}
@@ -35,8 +36,8 @@ pub record Answer : Type 0 where
 pub record Known : Type 0 where
   -- the values of the words
   pub words : RxWords
-  -- the bytes of the tables, where the words name some
-  pub tables : List ℕ
+  -- the tables of the Raptor code: those that were read where the words name some, and else ones without a row
+  pub tables : RaptorTables
   -- the records that were taken
   pub records : List Record
   -- why no more are taken, once the session has ended
@@ -90,8 +91,8 @@ abbrev pub after_record : Session → Record → Session
 after_record s heard = after_step s.events (step s.receiver heard)
 
 -- what the records make of a receiver that has heard nothing
-unfoldable pub session : ℕ → List Record → Session
-session tsi records = fold after_record (record { receiver = fresh tsi; events = [] }) records
+unfoldable pub session : ℕ → RaptorTables → List Record → Session
+session tsi tables records = fold after_record (record { receiver = fresh tsi tables; events = [] }) records
 
 -- The session's end.
 
@@ -141,7 +142,7 @@ end_events known r (Some cause) =
 
 -- the events that a run has made by then
 abbrev pub events_of : Known → List Event
-events_of known = let s = session known.words.tsi known.records in
+events_of known = let s = session known.words.tsi known.tables known.records in
     s.events ++ end_events known s.receiver known.cause
 
 -- every life was handed out

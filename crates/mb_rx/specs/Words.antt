@@ -21,9 +21,9 @@ tsi_of digits =
     && nat_lt (value_of digits) (2 ^ 48)
     then Some (value_of digits) else None
 
--- the values of the words where only the TSI is given
-abbrev pub session_words : ℕ → RxWords
-session_words tsi = record {
+-- the values of the words where only the TSI is given, and the name of a tables file or none
+abbrev pub session_words : Option (List ℕ) → ℕ → RxWords
+session_words tables tsi = record {
   tsi = tsi;
   until = 281474976710655;
   offset = 0;
@@ -34,16 +34,23 @@ session_words tsi = record {
   report = report.None;
   percent = 100;
   path = codes "/repair";
-  tables = None;
+  tables = tables;
   trace = None;
   listen = None;
   folder = codes ".";
   servers = [];
 }
 
--- the values of the words, which are `--tsi` and a number, or None where they have another form
+-- the TSI that the first two words give, which are `--tsi` and a number
+abbrev pub tsi_in : List ℕ → List ℕ → Option ℕ
+tsi_in name number = if bytes_eq name (codes "--tsi") then tsi_of number else None
+
+-- The values of the words, or None where they have another form. Behind the TSI may stand `--tables` and a text.
 unfoldable pub words_of : List (List ℕ) → Option RxWords
-words_of (name ∷ number ∷ []) = if bytes_eq name (codes "--tsi") then option_map session_words (tsi_of number) else None
-words_of (name ∷ number ∷ other ∷ others) = None
+words_of (name ∷ number ∷ []) = option_map (session_words None) (tsi_in name number)
+words_of (name ∷ number ∷ option ∷ text ∷ []) =
+    if bytes_eq option (codes "--tables") then option_map (session_words (Some text)) (tsi_in name number) else None
+words_of (name ∷ number ∷ option ∷ text ∷ other ∷ others) = None
+words_of (name ∷ number ∷ option ∷ []) = None
 words_of (name ∷ []) = None
 words_of [] = None

@@ -2,6 +2,7 @@ ghost use Rattle.std.specs.Prelude.{◌≡◌, List, Some, [], ◌∷◌, length
 ghost use Rattle.std.specs.List.{list_all};
 ghost use Rattle.mb_base.specs.Broadcast.{Record};
 ghost use Rattle.mb_alc.specs.Words.{kinds};
+ghost use Rattle.mb_tables.specs.Tables.{RaptorTables};
 ghost use Rattle.mb_rx.specs.Receive.{known_of};
 ghost use Rattle.mb_machine.specs.Counts.{reasons};
 ghost use Rattle.mb_rx.specs.Run.{count_line, expired_line, fault_lines, drop_lines, end_events, end_moment, incomplete_lines};
@@ -123,9 +124,9 @@ pub fn print_end<O: Sink>(
     receiver: &Receiver,
     datagrams: u32,
 ) -> Result<bool, Status>
-    ensures printed { (records : List Record) → length records ≡ datagrams
+    ensures printed { (tables : RaptorTables) (records : List Record) → length records ≡ datagrams
         → Prints (O.written out.old) (O.faults out.old) (O.written out.new) (O.faults out.new)
-        (end_events (known_of words.now records (Some cause)) (seen receiver.now) (Some cause)) result }
+        (end_events (known_of words.now tables records (Some cause)) (seen receiver.now) (Some cause)) result }
     ensures complete { IfOk result (λ all. all ≡ list_all (λ life. life.done) receiver.now.table.lives) }
     ensures same { O.made out.new ≡ O.made out.old }
 {

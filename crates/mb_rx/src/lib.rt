@@ -12,10 +12,13 @@ mod longest_tests;
 #[cfg(test)]
 mod packets_tests;
 #[cfg(test)]
+mod raptor_tests;
+#[cfg(test)]
 mod receive_tests;
 mod receiver;
 mod receiving;
 mod session;
+mod tables;
 #[cfg(test)]
 mod texts_tests;
 mod words;
@@ -23,6 +26,8 @@ mod words;
 mod words_tests;
 
 pub use cause::{Cause, DATAGRAMS_MAX, Ending};
-pub use laws::{broken_traces_are_found, faultless_calls_complete, run_grows};
+pub use laws::{
+    bad_tables_are_found, broken_traces_are_found, faultless_calls_complete, run_grows,
+};
 pub use receiving::receive;
 pub use words::{Mode, ReportWord, RxWords, read_words};

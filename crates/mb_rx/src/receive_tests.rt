@@ -18,6 +18,8 @@ pub(crate) enum Sent<'a> {
     Half(u32),
     /// The packet of an object, with its TSI, its TOI and its payload ID.
     Symbol(u32, u32, u32, &'a [u8]),
+    /// The packet of an object of TSI 1 and TOI 5 under Raptor, with its payload ID.
+    Raptor(u32, &'a [u8]),
     /// The packet of these words, and of a payload.
     Words(&'a [u32], &'a [u8]),
     /// Any bytes.
@@ -147,6 +149,9 @@ fn datagram_of(alloc: Global, sent: Sent<'_>) -> Result<Vec<u8>, Memory> {
         Sent::Symbol(tsi, toi, payload_id, payload) => {
             packet_of(alloc, &[0x10a0_0400, 0, tsi, toi, payload_id], payload)
         }
+        Sent::Raptor(payload_id, payload) => {
+            packet_of(alloc, &[0x10a0_0401, 0, 1, 5, payload_id], payload)
+        }
         Sent::Words(words, payload) => packet_of(alloc, words, payload),
         Sent::Bytes(bytes) => Ok(bytes.to_vec(alloc)?),
     }
@@ -173,6 +178,17 @@ pub(crate) fn received<R: Threads + Sync + AllocGlobal>(
     trace: &[u8],
     failing: [&[u64]; 3],
 ) -> Result<Left, Memory> {
+    received_with(rt, words, (&[], &[]), trace, failing)
+}
+
+/// The same over the bytes of tables, of whose source the listed calls fail.
+pub(crate) fn received_with<R: Threads + Sync + AllocGlobal>(
+    rt: &R,
+    words: &[&str],
+    tables: (&[u8], &[u64]),
+    trace: &[u8],
+    failing: [&[u64]; 3],
+) -> Result<Left, Memory> {
     let alloc: Global = rt.alloc();
     let words: Vec<String> = words
         .iter()
@@ -181,7 +197,8 @@ pub(crate) fn received<R: Threads + Sync + AllocGlobal>(
     let [of_store, of_sink, of_source] = failing;
     let source = MemSource::new(trace.to_vec(alloc)?, of_source.to_vec(alloc)?)?;
     let mut air = TraceAir::new(alloc, source)?;
-    let mut tables = MemSource::new(Vec::new(alloc), Vec::new(alloc))?;
+    let (of_tables, failing_tables) = tables;
+    let mut tables = MemSource::new(of_tables.to_vec(alloc)?, failing_tables.to_vec(alloc)?)?;
     let mut store = MemStore::new(alloc, of_store.to_vec(alloc)?)?;
     let mut out = MemSink::new(alloc, of_sink.to_vec(alloc)?)?;
     let mut links = MemLinks::new(alloc, Vec::new(alloc), Vec::new(alloc))?;
@@ -382,7 +399,13 @@ fn what_came_before_a_fault_stays(rt: HostRuntime) -> Result<(), Fail> {
 
 #[test]
 fn refused_words_read_nothing(rt: HostRuntime) -> Result<(), Fail> {
-    let words: [&[&str]; 4] = [&[], &["--tsi"], &["--tsi", "x"], &["--tsi", "1", "2"]];
+    let words: [&[&str]; 5] = [
+        &[],
+        &["--tsi"],
+        &["--tsi", "x"],
+        &["--tsi", "1", "2"],
+        &["--tsi", "1", "--tables"],
+    ];
     for words in words {
         // The first read is still to come.
         let left = received(&rt, words, &CUT, [&[], &[], &[1]])?;

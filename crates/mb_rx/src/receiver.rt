@@ -8,6 +8,7 @@ use mb_alc::read_packet;
 use mb_base::Memory;
 use mb_machine::{Drops, Happened};
 use mb_objects::Table;
+use mb_tables::Tables;
 use std::alloc::Global;
 
 /// The table of a session, and how many of its datagrams were no packet or were dropped.
@@ -19,13 +20,13 @@ pub struct Receiver {
 }
 
 impl Receiver {
-    /// The receiver of the session with this TSI, which has heard nothing. `Memory` where there is no room for its
-    /// table.
-    pub fn new(alloc: Global, tsi: u64) -> Result<Receiver, Memory>
-        ensures { IfOk result (λ receiver. seen receiver ≡ fresh tsi) }
+    /// The receiver of the session with this TSI, which has heard nothing, with these tables of the Raptor code.
+    /// `Memory` where there is no room for its table.
+    pub fn new(alloc: Global, tsi: u64, tables: Tables) -> Result<Receiver, Memory>
+        ensures { IfOk result (λ receiver. seen receiver ≡ fresh tsi tables) }
     {
         Ok(Receiver {
-            table: Table::new(alloc, tsi)?,
+            table: Table::new(alloc, tsi, tables)?,
             faults: Faults::NONE,
             drops: Drops::none(),
         })

@@ -1,5 +1,5 @@
 ghost use Rattle.std.specs.Prelude.{◌≡◌, ◌≤◌, if◌then◌else◌, length, map, option_map, string_bytes, Some, None, IfOk};
-ghost use Rattle.mb_rx.specs.Words.{are_digits, value_of, tsi_of, words_of, session_words};
+ghost use Rattle.mb_rx.specs.Words.{are_digits, value_of, tsi_of, tsi_in, words_of, session_words};
 
 use mb_base::{Bytes, WordsFault};
 use mb_program::Texts;
@@ -57,7 +57,8 @@ pub struct RxWords {
 }
 
 /// The values of a program's words, without its own name: `--tsi` and a number of 1 to 15 decimal digits
-/// below 2^48. Every other value is the one that holds where its word is not given.
+/// below 2^48, and behind them nothing, or `--tables` and the name of a tables file. Every other value is the
+/// one that holds where its word is not given.
 ///
 /// `Refused` exactly where the words are others, as a number with a sign or a word that follows, and
 /// `Memory` where there is no room for the values.
@@ -65,27 +66,48 @@ pub fn read_words(alloc: Global, words: &[String]) -> Result<RxWords, WordsFault
     ensures read { IfOk result (λ values. words_of (map string_bytes words.now) ≡ Some values) }
     ensures refused { result ≡ Err WordsFault.Refused → words_of (map string_bytes words.now) ≡ None }
 {
-    let Some(tsi) = tsi_in(words) else {
+    let Some(given) = read_given(words) else {
         return Err(WordsFault::Refused);
     };
-    let Ok(values) = values_for(alloc, tsi) else {
+    let Ok(values) = values_for(alloc, given) else {
         return Err(WordsFault::Memory);
     };
     Ok(values)
 }
 
-/// The TSI that the words give, if they have their form.
+/// What words of the right form give.
+#[derive(Clone, Copy)]
+struct Given<'a> {
+    tsi: u64,
+    tables: Option<&'a str>,
+}
+
+/// What the words give, if they have their form.
 #[tactic(auto, unfolding(crate::specs::Words::words_of))]
-fn tsi_in(words: &[String]) -> Option<u64>
-    ensures { words_of (map string_bytes words.now) ≡ option_map session_words result }
+fn read_given(words: &[String]) -> Option<Given<'_>>
+    ensures { words_of (map string_bytes words.now) ≡ option_map (λ g. session_words (option_map (λ text. text.now) g.tables) g.tsi) result }
 {
-    let [name, number] = words else {
-        return None;
-    };
-    if name.as_str() != "--tsi" {
+    match words {
+        [name, number] => Some(Given {
+            tsi: tsi_in(name.as_str(), number.as_bytes())?,
+            tables: None,
+        }),
+        [name, number, option, text] if option.as_str() == "--tables" => Some(Given {
+            tsi: tsi_in(name.as_str(), number.as_bytes())?,
+            tables: Some(text.as_str()),
+        }),
+        _ => None,
+    }
+}
+
+/// The TSI that a word and the text behind it give.
+fn tsi_in(name: &str, number: &[u8]) -> Option<u64>
+    ensures { result ≡ tsi_in name.now number.now }
+{
+    if name != "--tsi" {
         return None;
     }
-    tsi(number.as_bytes())
+    tsi(number)
 }
 
 /// The number below 2^48 that 1 to 15 decimal digits stand for.
@@ -115,12 +137,16 @@ fn number(digits: &[u8]) -> Option<u64>
     Some(number)
 }
 
-/// The values where the TSI alone is given.
-fn values_for(alloc: Global, tsi: u64) -> Result<RxWords, AllocError>
-    ensures { IfOk result (λ values. values ≡ session_words tsi) }
+/// The values where this is given.
+fn values_for(alloc: Global, given: Given<'_>) -> Result<RxWords, AllocError>
+    ensures { IfOk result (λ values. values ≡ session_words (option_map (λ text. text.now) given.entry.tables) given.entry.tsi) }
 {
+    let tables = match given.tables {
+        Some(name) => Some(text(alloc, name)?),
+        None => None,
+    };
     Ok(RxWords {
-        tsi,
+        tsi: given.tsi,
         until: 281_474_976_710_655,
         offset: 0,
         period: 0,
@@ -130,7 +156,7 @@ fn values_for(alloc: Global, tsi: u64) -> Result<RxWords, AllocError>
         report: ReportWord::None,
         percent: 100,
         path: text(alloc, "/repair")?,
-        tables: None,
+        tables,
         trace: None,
         listen: None,
         folder: text(alloc, ".")?,

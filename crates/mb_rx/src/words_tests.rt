@@ -41,6 +41,11 @@ fn reads_one_number_after_its_name(rt: HostRuntime) {
         (["--tsi", "1", "2"].as_slice(), None),
         (["--tsi=1"].as_slice(), None),
         (["--TSI", "1"].as_slice(), None),
+        (["--tsi", "1", "--tables", "t"].as_slice(), Some(1)),
+        (["--tsi", "x", "--tables", "t"].as_slice(), None),
+        (["--tsi", "1", "--table", "t"].as_slice(), None),
+        (["--tables", "t", "--tsi", "1"].as_slice(), None),
+        (["--tsi", "1", "--tables", "t", "u"].as_slice(), None),
         ([].as_slice(), None),
     ];
     for (words, tsi) in table {
@@ -67,5 +72,14 @@ fn other_values_are_as_without_their_words(rt: HostRuntime) -> Result<(), AllocE
     assert!(&rt; values.listen.is_none());
     assert_eq!(&rt; values.folder.as_slice(), b".".as_slice());
     assert!(&rt; values.servers.is_empty());
+    Ok(())
+}
+
+#[test]
+fn the_tables_are_named_behind_the_tsi(rt: HostRuntime) -> Result<(), AllocError> {
+    let words = owned(rt.alloc(), &["--tsi", "7", "--tables", "rows.tab"])?;
+    let values = read_words(rt.alloc(), words.as_slice()).expect(&rt, "the words are read");
+    let tables = values.tables.as_ref().expect(&rt, "tables are named");
+    assert_eq!(&rt; tables.as_slice(), b"rows.tab".as_slice());
     Ok(())
 }

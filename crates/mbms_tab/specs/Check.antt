@@ -5,6 +5,7 @@ use Rattle.mb_base.specs.Outside.{Grows}
 use Rattle.mb_base.specs.Status.{Status}
 use Rattle.mb_base.specs.Status.TheVariants as status
 use Rattle.mb_program.specs.Printing.{PrintsPart}
+use Rattle.mb_program.specs.Lines as program
 use Rattle.mb_tables.specs.Refused.{IsReadingOf, IsFree, Tells}
 use Rattle.mb_tables.specs.Tables.{RaptorTables}
 use Rattle.mb_tables.specs.declared.row.Row.{Row}
@@ -29,16 +30,6 @@ pub record TellsRows (t : RaptorTables) (rows : List Row) (text : List ℕ) : Ty
   pub lines : List (List ℕ)
   pub each : AllZip (IsRowLine t) rows lines
   pub is : text ≡ flat_map (λ (line : List ℕ). line) lines
-
--- the line of a file that is refused: the number of the fault, and where it is
-abbrev pub fault_line : TablesFault → List ℕ
-fault_line Magic = codes "tables 1\n"
-fault_line (Truncated place) = codes "tables 2 " ++ (decimal place ++ codes "\n")
-fault_line (Order row) = codes "tables 3 " ++ (decimal row ++ codes "\n")
-fault_line (Range row field) = codes "tables 4 " ++ (decimal row ++ (codes " " ++ (decimal field ++ codes "\n")))
-fault_line Trailing = codes "tables 5\n"
-fault_line SourceFault = []
-fault_line Memory = []
 
 -- What is printed.
 
@@ -66,7 +57,7 @@ pub record TellsFault (left : Option (List ℕ)) (text : List ℕ) : Type 0 wher
   pub fault : TablesFault
   pub of_bytes : IsFree (Err fault) → ⊥
   pub read : ReadsAs left (Err fault)
-  pub line : text ≡ fault_line fault
+  pub line : text ≡ program.refused_tables fault
 
 -- What a status says.
 abbrev pub Checks : Option (List ℕ) → Option (List ℕ) → Option (List ℕ) → Status → Type 0

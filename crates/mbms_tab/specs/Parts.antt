@@ -11,7 +11,8 @@ use Rattle.mb_tables.specs.declared.fault.TablesFault.{TablesFault}
 use Rattle.mb_rows.specs.declared.fault.CodeFault.TheVariants as code
 use Rattle.mb_encoder.specs.Usable.{IsUsable}
 use Rattle.mbms_tab.specs.Make.{AreMadeTables, LacksJ}
-use Rattle.mbms_tab.specs.Check.{TellsRows, fault_line}
+use Rattle.mb_program.specs.Lines as program
+use Rattle.mbms_tab.specs.Check.{TellsRows}
 use Rattle.mbms_tab.specs.Forms.{show_arguments, check_arguments, AreMakeArguments}
 use Rattle.mbms_tab.specs.declared.form.Form.{Form}
 use Rattle.mbms_tab.specs.declared.form.Form.TheVariants.{Show, Check, Make}
@@ -61,9 +62,9 @@ IsMakingFile ks None = LacksJ ks
 
 -- the line of a fault was printed, or memory was wanting and nothing was, or the sink failed in it
 abbrev pub RefusesTables : TablesFault → Option (List ℕ) → Option (List ℕ) → Status → Type 0
-RefusesTables fault before after status.Tables = Grows before after (fault_line fault)
+RefusesTables fault before after status.Tables = Grows before after (program.refused_tables fault)
 RefusesTables fault before after status.Memory = after ≡ before
-RefusesTables fault before after status.OutFault = PrintsPart (fault_line fault) before after
+RefusesTables fault before after status.OutFault = PrintsPart (program.refused_tables fault) before after
 RefusesTables fault before after _ = ⊥
 
 -- the arguments have this form, which has the texts of its block sizes

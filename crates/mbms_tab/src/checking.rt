@@ -6,9 +6,9 @@ ghost use Rattle.mbms_tab.specs.Check.{Checks};
 ghost use Rattle.mbms_tab.specs.Parts.{AreRowsOf, PrintsRows, PrintsAllRows, RefusesTables};
 
 use crate::progress::Progress;
-use crate::rows::{answers_for, fault_text, lines_of};
+use crate::rows::{answers_for, lines_of};
 use mb_base::{Sink, Source, Status};
-use mb_program::print;
+use mb_program::{print, tables_line};
 use mb_tables::{Row, Tables, TablesFault, read_tables};
 use std::alloc::Global;
 use std::thread::Threads;
@@ -64,7 +64,7 @@ fn refuse_tables<O: Sink>(alloc: Global, fault: TablesFault, out: &mut O) -> Sta
     ensures out_later { O.faults out.old ≤ O.faults out.new }
     ensures same { O.made out.new ≡ O.made out.old }
 {
-    let Ok(line) = fault_text(alloc, fault) else {
+    let Ok(line) = tables_line(alloc, fault) else {
         return Status::Memory;
     };
     match print(out, line.as_str()) {

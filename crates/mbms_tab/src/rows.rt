@@ -1,6 +1,6 @@
 ghost use Rattle.std.specs.Prelude.{◌≡◌, ◌++◌, true, false, IfOk, OnOk, codes, string_bytes};
 ghost use Rattle.std.specs.List.{AllZip};
-ghost use Rattle.mbms_tab.specs.Check.{TellsRows, row_line, fault_line};
+ghost use Rattle.mbms_tab.specs.Check.{TellsRows, row_line};
 ghost use Rattle.mbms_tab.specs.Parts.{IsAnswer, AreRowsOf};
 
 use mb_encoder::usable;
@@ -71,18 +71,4 @@ pub fn lines_of(
         }
     }
     Ok(lines)
-}
-
-/// The line of a tables file that is refused. A fault that is none of its bytes has no line.
-pub fn fault_text(alloc: Global, fault: TablesFault) -> Result<String, AllocError>
-    ensures { IfOk result (λ text. string_bytes text ≡ fault_line fault) }
-{
-    match fault {
-        TablesFault::Magic => format!(in alloc; "tables 1\n"),
-        TablesFault::Truncated(place) => format!(in alloc; "tables 2 {place}\n"),
-        TablesFault::Order(row) => format!(in alloc; "tables 3 {row}\n"),
-        TablesFault::Range(row, field) => format!(in alloc; "tables 4 {row} {field}\n"),
-        TablesFault::Trailing => format!(in alloc; "tables 5\n"),
-        TablesFault::SourceFault | TablesFault::Memory => Ok(String::new(alloc)),
-    }
 }

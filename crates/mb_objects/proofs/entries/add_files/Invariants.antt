@@ -8,7 +8,8 @@ abbrev pub invariant-loop-entry : goal.invariant-loop-entry
 invariant-loop-entry l = record {
   so_far : l.yielded ++ into_iter_items l.entry-iterator ≡ into_iter_items l.initial.entry-iterator;
   len : into_iter_len l.entry-iterator ≡ length (into_iter_items l.entry-iterator);
-  acted : fold (after_entry l.expires) (record { lives = l.initial.lives; report = empty_report }) l.yielded ≡ record { lives = l.lives; report = l.report };
+  tables : l.codes ≡ l.initial.codes;
+  acted : fold (after_entry l.initial.codes l.expires) (record { lives = l.initial.lives; report = empty_report }) l.yielded ≡ record { lives = l.lives; report = l.report };
   need : IsNeed l.need.plain l.need.equations l.lives;
   small : (l.need.plain ≤ 2 ^ 58) × (l.need.equations ≤ 2 ^ 58);
 }

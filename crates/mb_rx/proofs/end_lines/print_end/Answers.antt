@@ -26,10 +26,10 @@ rest_is : (m n : ℕ) (f : Faults) (d : List ℕ) (lives seen : List Life) → m
 rest_is m n f d lives seen p q = rw (p, q) refl
 
 pub returns-in_err-line-clause-printed : goal.returns-in_err-line-clause-printed
-returns-in_err-line-clause-printed g c = λ records count. Prints-memory _ _ _ c.from_residual.result c.from_residual.ensures.1
+returns-in_err-line-clause-printed g c = λ tables records count. Prints-memory _ _ _ c.from_residual.result c.from_residual.ensures.1
 
 pub returns-in_err-print-clause-printed : goal.returns-in_err-print-clause-printed
-returns-in_err-print-clause-printed g c = λ records count.
+returns-in_err-print-clause-printed g c = λ tables records count.
     let now = c.args.receiver.now in
     Prints-same _ _ _ _ _ _ c.from_residual-in_err-print.result
     (end_line_is c.args.cause _ _ _ _ _ _ _ (rest_of now.table.expired now.faults now.drops now.table.lives)
@@ -37,7 +37,7 @@ returns-in_err-print-clause-printed g c = λ records count.
     (Prints-stop _ _ _ _ _ _ _ c.from_residual-in_err-print.result c.from_residual-in_err-print.ensures.1 c.in_err-print.ensures.printed)
 
 pub returns-in_err-print_expired-clause-printed : goal.returns-in_err-print_expired-clause-printed
-returns-in_err-print_expired-clause-printed g c = λ records count.
+returns-in_err-print_expired-clause-printed g c = λ tables records count.
     let now = c.args.receiver.now in
     Prints-same _ _ _ _ _ _ c.from_residual-in_err-print_expired.result
     (end_line_is c.args.cause _ _ _ _ _ _ _ (rest_of now.table.expired now.faults now.drops now.table.lives)
@@ -47,7 +47,7 @@ returns-in_err-print_expired-clause-printed g c = λ records count.
     (Prints-stop _ _ _ _ _ _ _ c.from_residual-in_err-print_expired.result c.from_residual-in_err-print_expired.ensures.1 c.in_err-print_expired.ensures.printed)))
 
 pub returns-in_err-print_faults-clause-printed : goal.returns-in_err-print_faults-clause-printed
-returns-in_err-print_faults-clause-printed g c = λ records count.
+returns-in_err-print_faults-clause-printed g c = λ tables records count.
     let now = c.args.receiver.now in
     Prints-same _ _ _ _ _ _ c.from_residual-in_err-print_faults.result
     (end_line_is c.args.cause _ _ _ _ _ _ _ (rest_of now.table.expired now.faults now.drops now.table.lives)
@@ -58,7 +58,7 @@ returns-in_err-print_faults-clause-printed g c = λ records count.
     (Prints-stop _ _ _ _ _ _ _ c.from_residual-in_err-print_faults.result c.from_residual-in_err-print_faults.ensures.1 c.in_err-print_faults.ensures.printed))))
 
 pub returns-in_err-print_drops-clause-printed : goal.returns-in_err-print_drops-clause-printed
-returns-in_err-print_drops-clause-printed g c = λ records count.
+returns-in_err-print_drops-clause-printed g c = λ tables records count.
     let now = c.args.receiver.now in
     Prints-same _ _ _ _ _ _ c.from_residual-in_err-print_drops.result
     (end_line_is c.args.cause _ _ _ _ _ _ _ (rest_of now.table.expired now.faults now.drops now.table.lives)
@@ -70,7 +70,7 @@ returns-in_err-print_drops-clause-printed g c = λ records count.
     (Prints-stop _ _ _ _ _ _ _ c.from_residual-in_err-print_drops.result c.from_residual-in_err-print_drops.ensures.1 c.in_err-print_drops.ensures.printed)))))
 
 pub returns-clause-printed : goal.returns-clause-printed
-returns-clause-printed g c = λ records count.
+returns-clause-printed g c = λ tables records count.
     let now = c.args.receiver.now in
     Prints-same _ _ _ _ _ _ c.print_incomplete.result
     (end_line_is c.args.cause _ _ _ _ _ _ _ (rest_of now.table.expired now.faults now.drops now.table.lives)

@@ -2,9 +2,10 @@ use Rattle.std.proofs.Common.{◌≡◌, ℕ, ◌+◌, ◌*◌, ◌<◌, ◌≤�
 use Rattle.std.proofs.lemmas.Grind.{common_steps}
 use Rattle.mb_geom.specs.Partition.{ceiling, sizes_of}
 use Rattle.mb_bits.specs.BitRow.{bit_in}
-use Rattle.mb_block.specs.Block.{filled, heard_as, hear}
+use Rattle.mb_decoder.specs.Block.{filled}
+use Rattle.mb_way.specs.Heard.{heard_as, hear}
 use Rattle.mb_block.specs.Blocks.{Blocks, way_at, kept_at, AreBuffers}
-use Rattle.mb_block.specs.declared.heard.Heard.TheVariants.{Determined}
+use Rattle.mb_way.specs.declared.heard.Heard.TheVariants.{Determined}
 use Rattle.mb_block.proofs.BlockLemmas.{put_by}
 use Rattle.mb_block.proofs.FileLemmas.{HasPlace, whole-of, has-place, place-within, bit-within, place-room, heard-of, same-blocks, more-blocks}
 use Rattle.mb_block.proofs.blocks.BlocksRx.hear.Goals as goal

@@ -8,5 +8,5 @@ abbrev pub invariant-loop-life : goal.invariant-loop-life
 invariant-loop-life l = record {
   most : l.bytes ≤ needed (λ d. plain d + equations d) (take l.life-index l.life-items);
   least : lives_held (take l.life-index l.life-items) ≤ l.bytes;
-  small : l.bytes ≤ l.life-index * 2 ^ 30;
+  small : l.bytes ≤ l.life-index * 2 ^ 50;
 }

@@ -1,7 +1,9 @@
 use Rattle.std.proofs.Common.{◌≡◌, ◌<◌, true, List, length, get_or, refl, subst, sym, ap, ◌∙◌}
+use Rattle.mb_geom.specs.Description.{Description, IsGood}
 use Rattle.mb_life.specs.Life.{Life, is_ready}
 use Rattle.mb_machine.proofs.OnceLemmas.{once}
-use Rattle.mb_objects.proofs.StandLemmas.{ready-fits, was-counted, name-handed, lives-changed, good-at}
+use Rattle.mb_objects.proofs.StandLemmas.{ready-fits, was-counted, name-handed, lives-changed, holds-at}
+use Rattle.mb_objects.proofs.ReadyLemmas.{HasWays, ways-of-ready}
 use Rattle.mb_objects.proofs.lives.Lives.take.Goals as goal
 
 pub overflow_add-self : goal.overflow_add-self
@@ -31,6 +33,10 @@ invariant_of-self-2 g c =
 
 pub returns-clause-once : goal.returns-clause-once
 returns-clause-once g c d =
-    once (get_or c.args.self.now c.args.place d)
-    (good-at c.self.inside.items.items c.args.self.now c.args.place c.index_mut-life.result.now d c.self.view_is c.requires.within c.index_mut-life.ensures.value c.desc.result.now c.desc.ensures c.length-length.ensures.good)
-    (c.requires.ready d)
+    let seen = c.args.self.now in
+    let now = c.index_mut-life.result.now in
+    let life = get_or seen c.args.place d in
+    let good : IsGood life.desc = holds-at (λ (l : Life). IsGood l.desc) c.self.inside.items.items seen c.args.place now d c.self.view_is c.requires.within c.index_mut-life.ensures.value
+    (subst (λ (x : Description). IsGood x) c.desc.ensures.exact c.length-length.ensures.good) in
+    let ways : HasWays life = holds-at HasWays c.self.inside.items.items seen c.args.place now d c.self.view_is c.requires.within c.index_mut-life.ensures.value c.desc.ensures.ways in
+    once life good (ways-of-ready life ways (c.requires.ready d)) (c.requires.ready d)
