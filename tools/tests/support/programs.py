@@ -27,8 +27,8 @@ def path_of(name):
     return path
 
 
-def receive_words(tsi=1):
-    return [path_of("mbms_rx"), "--tsi", str(tsi)]
+def receive_words(tsi=1, tables=None):
+    return [path_of("mbms_rx"), "--tsi", str(tsi)] + ([] if tables is None else ["--tables", tables])
 
 
 def show_words():

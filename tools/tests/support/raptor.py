@@ -140,6 +140,64 @@ def is_usable(tables, row):
     return True
 
 
+class Elimination:
+    """Rows of a block's equations, each with the value that its symbols sum to, as far as they are independent."""
+
+    def __init__(self, tables, row):
+        self.tables, self.row = tables, row
+        h = h_of(row.k, row.s)
+        self.size = row.k + row.s + h
+        self.reduced = {}
+        for bits in constraint_rows(row, h):
+            self.add(bits, 0)
+
+    def add(self, bits, value):
+        """Whether the row is no sum of those before it."""
+        while bits and bits.bit_length() in self.reduced:
+            other, sum_of_other = self.reduced[bits.bit_length()]
+            bits ^= other
+            value ^= sum_of_other
+        if bits:
+            self.reduced[bits.bit_length()] = bits, value
+        return bool(bits)
+
+    def hear(self, esi, symbol):
+        return self.add(encoding_row(self.tables, self.row, self.size, esi), int.from_bytes(symbol, "big"))
+
+    def missing(self):
+        """How many symbols must come at least until the block is determined."""
+        return self.size - len(self.reduced)
+
+    def intermediate(self):
+        """The intermediate symbols of a block that is determined, as numbers."""
+        values = []
+        for place in range(self.size):
+            bits, value = self.reduced[place + 1]
+            for lower in range(place):
+                if bits >> lower & 1:
+                    value ^= values[lower]
+            values.append(value)
+        return values
+
+
+class Encoder:
+    """The encoding symbols of a block whose size is usable."""
+
+    def __init__(self, tables, row, symbols):
+        self.tables, self.row, self.length = tables, row, len(symbols[0])
+        elimination = Elimination(tables, row)
+        for esi, symbol in enumerate(symbols):
+            elimination.hear(esi, symbol)
+        self.size, self.values = elimination.size, elimination.intermediate()
+
+    def symbol(self, esi):
+        bits, value = encoding_row(self.tables, self.row, self.size, esi), 0
+        for place in range(self.size):
+            if bits >> place & 1:
+                value ^= self.values[place]
+        return value.to_bytes(self.length, "big")
+
+
 # Texts in the layout of the RFC.
 
 TITLE = "Request for Comments: 5053                              Nobody at all"
