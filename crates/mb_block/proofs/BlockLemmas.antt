@@ -11,7 +11,7 @@ use Rattle.mb_way.specs.Solution.{sources}
 use Rattle.mb_way.specs.declared.heard.Heard.TheVariants.{Kept, Determined}
 use Rattle.mb_way.proofs.Counting.{complete_count}
 use Rattle.mb_way.proofs.Keeping.{length_kept_with}
-use Rattle.mb_block.specs.Buffer.{seen, block_in, IsBuffer}
+use Rattle.mb_block.specs.Buffer.{seen, IsBuffer}
 use Rattle.mb_block.proofs.SeenLemmas.{IsPut, seen-put, seen-determined, seen-block, joined-seen}
 
 pub heard-determined : (k t : ℕ) (bytes words : List ℕ) (esi : ℕ) → esi < k → bit_in words esi ≡ true → heard_as (NoCode k) (seen k t bytes words) esi ≡ Determined

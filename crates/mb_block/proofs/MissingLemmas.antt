@@ -10,7 +10,7 @@ use Rattle.mb_encoder.specs.Solutions.{Pair, esis}
 use Rattle.mb_way.specs.Way.{Way.NoCode}
 use Rattle.mb_way.specs.Determined.{is_determined, is_block_determined}
 use Rattle.mb_way.proofs.Rising.{AreBelow, has}
-use Rattle.mb_block.specs.Missing.{request, is_usable}
+use Rattle.mb_block.specs.Missing.{request}
 use Rattle.mb_block.specs.Buffer.{seen}
 use Rattle.mb_block.specs.Laws.{SourcesSuffice}
 use Rattle.mb_block.proofs.SeenLemmas.{seen-determined}

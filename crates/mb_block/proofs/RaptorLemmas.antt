@@ -1,23 +1,23 @@
 -- What calls do to a block under Raptor in memory.
-use Rattle.std.proofs.Common.{◌≡◌, ◌↔◌, ℕ, ◌+◌, ◌*◌, ◌/◌, ◌<◌, ◌≤◌, ◌==◌, Bool, true, false, cond, List, [], ◌∷◌, ◌++◌, length, refl, sym, ◌∙◌, ap, ap₂, subst, arith, lt-ltb}
+use Rattle.std.proofs.Common.{◌≡◌, ◌↔◌, ℕ, ◌*◌, ◌<◌, ◌≤◌, ◌==◌, Bool, true, false, cond, List, [], ◌∷◌, ◌++◌, length, refl, sym, ◌∙◌, ap, ap₂, subst, arith, lt-ltb}
 use Rattle.std.specs.List.{AllByRecursion, concat}
-use Rattle.mb_rows.specs.Code.{RaptorCode, IsCode}
+use Rattle.mb_rows.specs.Code.{RaptorCode}
 use Rattle.mb_rows.specs.Determined.{Determines, DetermineBlock}
 use Rattle.mb_encoder.specs.Solutions.{Pair, esis}
 use Rattle.mb_decoder.specs.Block as decoder
 use Rattle.mb_decoder.specs.Block.{IsOf, filled}
 use Rattle.mb_decoder.specs.Sources.{AreSources}
-use Rattle.mb_way.specs.Way.{Way, Way.NoCode, Way.Raptor, size_of, is_in_range, IsWay}
+use Rattle.mb_way.specs.Way.{Way, Way.Raptor, size_of}
 use Rattle.mb_way.specs.Determined.{is_determined}
 use Rattle.mb_way.specs.Heard.{heard_as, hear, is_complete}
 use Rattle.mb_way.specs.Solution.{sources}
-use Rattle.mb_way.specs.declared.heard.Heard.TheVariants.{Kept, Determined, OutOfRange}
+use Rattle.mb_way.specs.declared.heard.Heard.TheVariants.{Kept, Determined}
 use Rattle.mb_way.proofs.Testing.{determined_tested, not_determined, block_tested}
-use Rattle.mb_way.proofs.Keeping.{hear_keeps, kept_is_new, all_kept_with, nothing_kept, heard_kept}
+use Rattle.mb_way.proofs.Keeping.{hear_keeps, kept_is_new, all_kept_with, heard_kept}
 use Rattle.mb_way.proofs.Counting.{complete_count}
 use Rattle.mb_way.proofs.Solving.{joined_from}
-use Rattle.mb_block.specs.Block.{Block, IsPairOf, IsBlock, buffer_of, nothing_of}
-use Rattle.mb_block.specs.Raptor.{block_heard, IsHeard}
+use Rattle.mb_block.specs.Block.{Block, IsPairOf, IsBlock}
+use Rattle.mb_block.specs.Raptor.{IsHeard}
 use Rattle.mb_block.proofs.BlockLemmas.{length-filled}
 
 -- ---- of a block that was heard
@@ -59,14 +59,14 @@ pub record IsAnswer (w : Way) (old new : decoder.Block) (pair : Pair) (answer : 
   pub kept : new.kept ≡ hear w old.kept pair
 
 pub answered : (w : Way) (old new : decoder.Block) (c : RaptorCode) (pair : Pair) (answer : Bool) → w ≡ Raptor c → pair.esi < 65536
-    → (answer ≡ false) ↔ Determines c (esis old.kept) pair.esi → (answer ≡ false → new ≡ old) → (answer ≡ true → new.kept ≡ old.kept ++ pair ∷ [])
+    → (answer ≡ false) ↔ Determines c (esis old.kept) pair.esi → (answer ≡ false → new.kept ≡ old.kept) → (answer ≡ true → new.kept ≡ old.kept ++ pair ∷ [])
     → IsAnswer w old new pair answer
 answered w old new c pair true is few determined same more =
     let new_one = heard-new w c old.kept pair.esi is few (λ d. let e = determined.1 d in cc e) in
     record { heard = new_one; kept = more refl ∙ sym (hear-new w c old.kept pair is new_one) }
 answered w old new c pair false is few determined same more =
     let repeat = heard-old w c old.kept pair.esi is few (determined.0 refl) in
-    record { heard = repeat; kept = ap (λ (d : decoder.Block). d.kept) (same refl) ∙ sym (hear-old w old.kept pair repeat) }
+    record { heard = repeat; kept = same refl ∙ sym (hear-old w old.kept pair repeat) }
 
 block-more : (w : Way) (t : ℕ) (kept : List Pair) (esi : ℕ) (bytes : List ℕ) → length bytes ≤ t → IsBlock (record { way = w; symbol = t; kept = kept })
     → IsBlock (record { way = w; symbol = t; kept = hear w kept (record { esi = esi; symbol = filled t bytes }) })

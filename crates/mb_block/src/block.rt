@@ -1,4 +1,5 @@
 ghost use Rattle.std.specs.Prelude.{◌≡◌, ℕ, ◌+◌, ◌*◌, ◌<◌, ◌≤◌, length, true, IfOk};
+ghost use Rattle.mb_rows.specs.Code.{RaptorCode};
 
 use crate::no_code::NoCodeBlock;
 use crate::raptor::RaptorBlock;
@@ -36,8 +37,8 @@ impl Model for BlockRx {
 
 impl BlockRx {
     ghost use Rattle.std.specs.List.{concat};
-    ghost use Rattle.mb_decoder.specs.Block.{filled};
-    ghost use Rattle.mb_way.specs.Way.{size_of};
+    ghost use Rattle.mb_decoder.specs.Block.{SourcesDetermine, filled};
+    ghost use Rattle.mb_way.specs.Way.{Raptor, size_of};
     ghost use Rattle.mb_way.specs.Heard.{heard_as, hear, is_complete};
     ghost use Rattle.mb_way.specs.Solution.{sources};
     ghost use Rattle.mb_block.specs.Block.{IsBlock, nothing_of, buffer_of};
@@ -52,7 +53,7 @@ impl BlockRx {
         let kind = match way.code() {
             None => Kind::NoCode(NoCodeBlock::start(alloc, way.size(), symbol)?),
             Some(code) => {
-                let decoder = Decoder::start(alloc, code, symbol)?;
+                let decoder = Decoder::start(alloc, code, symbol, way.is_usable())?;
                 Kind::Raptor(RaptorBlock::of(way, decoder))
             }
         };
@@ -106,6 +107,17 @@ impl BlockRx {
         match &self.kind {
             Kind::NoCode(block) => block.is_complete(),
             Kind::Raptor(block) => block.is_complete(),
+        }
+    }
+
+    /// Whether the symbols that are kept show that the block's code is usable: they are its source symbols. A block under
+    /// Compact No-Code has no code.
+    pub fn shows_usable(&self) -> bool
+        ensures { (c : RaptorCode) → self.now.way ≡ Raptor c → result ≡ true → SourcesDetermine c }
+    {
+        match &self.kind {
+            Kind::NoCode(_) => false,
+            Kind::Raptor(block) => block.shows_usable(),
         }
     }
 

@@ -29,7 +29,7 @@ impl Model for RaptorBlock {
 impl RaptorBlock {
     ghost use Rattle.std.specs.List.{concat};
     ghost use Rattle.mb_rows.specs.Code.{RaptorCode};
-    ghost use Rattle.mb_decoder.specs.Block.{filled};
+    ghost use Rattle.mb_decoder.specs.Block.{SourcesDetermine, filled};
     ghost use Rattle.mb_way.specs.Way.{Raptor, size_of};
     ghost use Rattle.mb_way.specs.Heard.{heard_as, hear, is_complete};
     ghost use Rattle.mb_way.specs.Solution.{sources};
@@ -74,6 +74,13 @@ impl RaptorBlock {
         ensures { result ≡ is_complete self.now.way self.now.kept }
     {
         self.decoder.is_complete()
+    }
+
+    /// Whether the symbols that are kept show that the block's code is usable.
+    pub(crate) fn shows_usable(&self) -> bool
+        ensures { (c : RaptorCode) → self.now.way ≡ Raptor c → result ≡ true → SourcesDetermine c }
+    {
+        self.decoder.shows_usable()
     }
 
     /// The bytes of its memory.

@@ -1,7 +1,7 @@
 -- A symbol is determined exactly where its folded row is a sum of those that are kept, and what is kept where it is not.
-use Rattle.std.proofs.Common.{◌≡◌, ◌↔◌, ℕ, zero, suc, ◌+◌, ◌-◌, ◌*◌, ◌<◌, ◌≤◌, ◌==◌, Bool, true, List, [], ◌∷◌, ◌++◌, length, map, take, drop, replicate, slice_index, slice_set, refl, ap, ap₂, sym, subst, ◌∙◌, arith, length-append}
+use Rattle.std.proofs.Common.{◌≡◌, ◌↔◌, ℕ, zero, suc, ◌+◌, ◌-◌, ◌*◌, ◌<◌, ◌≤◌, ◌==◌, Bool, true, false, List, [], ◌∷◌, ◌++◌, length, map, take, drop, replicate, slice_index, slice_set, refl, ap, ap₂, sym, subst, ◌∙◌, arith, length-append}
 use Rattle.std.proofs.lemmas.Bool.{eq-eqb}
-use Rattle.std.proofs.lemmas.List.{map-append, length-replicate, length-take-le, length-drop, get_or-take, get_or-set_same, get_or-set_other}
+use Rattle.std.proofs.lemmas.List.{map-append, length-replicate, length-take-le, length-drop, length-map, get_or-take, get_or-set_same, get_or-set_other}
 use Rattle.std.proofs.lemmas.Grind.{same_number_lists, common_steps}
 use Rattle.mb_linear.specs.Row.{AreRows}
 use Rattle.mb_linear.specs.Span.{IsSumOf, AreIndependent}
@@ -52,12 +52,12 @@ is_determined c k esi rows es row e f g = (
 
 -- ---- the block
 
-full_block : (c : RaptorCode) (es : List ℕ) → AreIndependent c.row.k (map (folded_row c) es) → length (map (folded_row c) es) ≡ c.row.k → DetermineBlock c es
+pub full_block : (c : RaptorCode) (es : List ℕ) → AreIndependent c.row.k (map (folded_row c) es) → length (map (folded_row c) es) ≡ c.row.k → DetermineBlock c es
 full_block c es free many =
     let rows = map (folded_row c) es in
     (rows_determine_block c es).1 (spanned_zeros c.row.k rows (folded_rows c es) (λ row long. full_determines c.row.k rows row (folded_rows c es) free many long))
 
-block_full : (c : RaptorCode) (es : List ℕ) → AreIndependent c.row.k (map (folded_row c) es) → DetermineBlock c es → length (map (folded_row c) es) ≡ c.row.k
+pub block_full : (c : RaptorCode) (es : List ℕ) → AreIndependent c.row.k (map (folded_row c) es) → DetermineBlock c es → length (map (folded_row c) es) ≡ c.row.k
 block_full c es free d =
     let rows = map (folded_row c) es in
     let many = spanning_many c.row.k rows (folded_rows c es) (zeros_span c.row.k rows (folded_rows c es) ((rows_determine_block c es).0 d)) in
@@ -75,12 +75,13 @@ is_full c k rows es e f free d = ap length f ∙ block_full c es (free_by c k ro
 same_number : (m n : ℕ) → (m == n) ≡ true → m ≡ n
 same_number m n is = grind (arith, common_steps)
 
-pub is_complete : (c : RaptorCode) (k : ℕ) (rows : List (List Bool)) (es : List ℕ) (answer : Bool) → answer ≡ (length rows == k) → k ≡ c.row.k → rows ≡ map (folded_row c) es
-    → AreIndependent k rows → (answer ≡ true) ↔ DetermineBlock c es
-is_complete c k rows es answer a e f free = (
-  λ yes. full_block c es (free_by c k rows es e f free) (ap length (sym f) ∙ same_number (length rows) k (sym a ∙ yes) ∙ e),
-  λ d. a ∙ eq-eqb (length rows) k (is_full c k rows es e f free d),
-)
+pub is_complete : (c : RaptorCode) (k : ℕ) (es : List ℕ) (answer : Bool) → answer ≡ (length es == k) → k ≡ c.row.k → AreIndependent c.row.k (map (folded_row c) es)
+    → (answer ≡ true) ↔ DetermineBlock c es
+is_complete c k es answer a e free =
+    let count = length-map es (folded_row c) in (
+      λ yes. full_block c es free (count ∙ same_number (length es) k (sym a ∙ yes) ∙ e),
+      λ d. a ∙ eq-eqb (length es) k (sym count ∙ block_full c es free d ∙ sym e),
+    )
 
 -- ---- what is kept
 
@@ -147,28 +148,33 @@ put_before t at n i b xs rest e p q r =
     at_front (take at xs) rest (t * i + b) (omega arith) ∙ get_or-take at xs (t * i + b) 0 (omega arith)
 
 -- what is kept then
-pub heard : (b : Block) (e : Offered) (t n count at esi : ℕ) (es xs ys bytes : List ℕ) → block_in t e es xs ≡ b → n ≡ length e.news → count ≡ suc n → at ≡ t * n
+pub heard : (b : Block) (e : Offered) (t n count at esi : ℕ) (alone : Bool) (es xs ys bytes : List ℕ) → block_in t e n alone es xs ≡ b → count ≡ suc n → at ≡ t * n
     → n < length es → at + t ≤ length xs → length bytes ≤ t → ys ≡ take at xs ++ (filled t bytes ++ drop (at + t) xs)
     → pairs_in t (slice_set es n esi) ys count ≡ b.kept ++ record { esi = esi; symbol = filled b.t bytes } ∷ []
-heard b e t n count at esi es xs ys bytes view number f g p q r put =
+heard b e t n count at esi alone es xs ys bytes view f g p q r put =
     more_pairs t n count esi es (slice_set es n esi) xs ys (filled t bytes) f
     (λ i s. get_or-set_other es n i esi 0 (λ same. omega arith))
     (get_or-set_same es n esi 0 p)
     (λ i d s u. ap (λ (zs : List ℕ). byte_at t zs i d) put ∙ put_before t at n i d xs (filled t bytes ++ drop (at + t) xs) g (omega arith) s u)
     (ap (λ (zs : List ℕ). symbol_of t zs n) put ∙ put_own t at n xs bytes g q r)
     ∙ ap₂ (λ (ps : List Pair) (w : ℕ). ps ++ record { esi = esi; symbol = filled w bytes } ∷ [])
-    (ap (pairs_in t es xs) number ∙ ap (λ (d : Block). d.kept) view) (ap (λ (d : Block). d.t) view)
+    (ap (λ (d : Block). d.kept) view) (ap (λ (d : Block). d.t) view)
 
 -- it is a block of the code still
-pub is_of_more : (c : RaptorCode) (b : Block) (e f : Offered) (t : ℕ) (es xs : List ℕ) (kept : List Pair) (row : List Bool) (p : Pair) → block_in t e es xs ≡ b → IsOf c b
-    → f.places ≡ e.places → f.news ≡ e.news ++ row ∷ [] → row ≡ folded_row c p.esi → kept ≡ b.kept ++ p ∷ []
-    → IsOf c (record { k = f.places; t = t; kept = kept; rows = f.news })
-is_of_more c b e f t es xs kept row p view of places news own more = record {
+pub is_of_more : (c : RaptorCode) (b : Block) (e f : Offered) (t n : ℕ) (alone : Bool) (es xs : List ℕ) (kept : List Pair) (row : List Bool) (p : Pair) → alone ≡ false
+    → block_in t e n alone es xs ≡ b → IsOf c b → f.places ≡ e.places → f.news ≡ e.news ++ row ∷ [] → row ≡ folded_row c p.esi → kept ≡ b.kept ++ p ∷ []
+    → IsOf c (record { k = f.places; t = t; kept = kept; alone = alone; rows = f.news })
+is_of_more c b e f t n alone es xs kept row p worked view of places news own more = record {
   k = places ∙ ap (λ (d : Block). d.k) view ∙ of.k;
-  rows = news ∙ more_rows c e.news row b.kept p (ap (λ (d : Block). d.rows) view ∙ of.rows) own ∙ sym (ap (λ (ps : List Pair). map (folded_row c) (esis ps)) more);
+  rows = λ still.
+      news ∙ more_rows c e.news row b.kept p (ap (λ (d : Block). d.rows) view ∙ of.rows (sym (ap (λ (d : Block). d.alone) view) ∙ worked)) own
+      ∙ sym (ap (λ (ps : List Pair). map (folded_row c) (esis ps)) more);
+  sources = λ is. let bad : true ≡ false = sym is ∙ worked in absurd cc;
 }
 
 -- of a block that was just begun
-pub begun : (t k : ℕ) (e : Offered) (es xs : List ℕ) → e ≡ record { places = k; news = [] } → block_in t e es xs ≡ record { k = k; t = t; kept = []; rows = [] }
-begun t k e es xs is =
-    ap (λ (o : Offered). block_in t o es xs) is ∙ ap (λ (ps : List Pair). let b : Block = record { k = k; t = t; kept = ps; rows = [] } in b) (no_pairs t es xs)
+pub begun : (t k : ℕ) (e : Offered) (alone : Bool) (es xs : List ℕ) → e ≡ record { places = k; news = [] }
+    → block_in t e 0 alone es xs ≡ record { k = k; t = t; kept = []; alone = alone; rows = [] }
+begun t k e alone es xs is =
+    ap (λ (o : Offered). block_in t o 0 alone es xs) is
+    ∙ ap (λ (ps : List Pair). let b : Block = record { k = k; t = t; kept = ps; alone = alone; rows = [] } in b) (no_pairs t es xs)

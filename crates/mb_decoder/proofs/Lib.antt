@@ -1,4 +1,5 @@
 pub mod Hearing
+pub mod Alone
 pub mod Extending
 pub mod Solutions
 pub mod Middle

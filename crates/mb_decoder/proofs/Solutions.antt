@@ -42,7 +42,7 @@ kept_sum c t count n b es xs us s p q =
 
 -- ---- the unknowns of the kept rows are a solution
 
-esis_in : (t count : ℕ) (es xs : List ℕ) → esis (pairs_in t es xs count) ≡ firsts (slice_index es) count
+pub esis_in : (t count : ℕ) (es xs : List ℕ) → esis (pairs_in t es xs count) ≡ firsts (slice_index es) count
 unfolding pairs_in
 esis_in t count es xs = map_of_firsts (λ (p : Pair). p.esi) (pair_in t es xs) count
 

@@ -1,5 +1,5 @@
 -- How a block stands in memory: the ESIs and the symbols that are kept, one behind the other, with room for K of them.
-use Rattle.std.specs.Prelude.{◌≡◌, ℕ, ◌*◌, ◌≤◌, List, length, slice_index}
+use Rattle.std.specs.Prelude.{◌≡◌, ℕ, ◌*◌, ◌<◌, ◌≤◌, Bool, true, false, List, [], length, slice_index}
 use Rattle.mb_elim.specs.Offered.{Offered}
 use Rattle.mb_elim.specs.Kept.{firsts}
 use Rattle.mb_encoder.specs.Symbols.{symbol_of}
@@ -13,12 +13,23 @@ pair_in t esis symbols n = record { esi = slice_index esis n; symbol = symbol_of
 unfoldable pub pairs_in : ℕ → List ℕ → List ℕ → ℕ → List Pair
 pairs_in t esis symbols count = firsts (pair_in t esis symbols) count
 
-abbrev pub block_in : ℕ → Offered → List ℕ → List ℕ → Block
-block_in t offered esis symbols =
-    record { k = offered.places; t = t; kept = pairs_in t esis symbols (length offered.news); rows = offered.news }
+abbrev pub block_in : ℕ → Offered → ℕ → Bool → List ℕ → List ℕ → Block
+block_in t offered count alone esis symbols =
+    record { k = offered.places; t = t; kept = pairs_in t esis symbols count; alone = alone; rows = offered.news }
 
--- there is room for all
-pub record AreBuffers (t : ℕ) (offered : Offered) (esis symbols : List ℕ) : Type 0 where
-  pub few : length offered.news ≤ offered.places
+-- There is room for all. The rows of those that are kept were offered, or none was.
+pub record AreBuffers (t : ℕ) (offered : Offered) (count : ℕ) (alone : Bool) (esis symbols : List ℕ) : Type 0 where
+  pub few : count ≤ offered.places
   pub esis_are : length esis ≡ offered.places
   pub symbols_are : length symbols ≡ t * offered.places
+  pub offered_are : alone ≡ false → length offered.news ≡ count
+  pub none_are : alone ≡ true → offered.news ≡ []
+
+-- one of the first numbers is this one
+pub record IsAmongFirst (numbers : List ℕ) (count number : ℕ) : Type 0 where
+  pub index : ℕ
+  pub within : index < count
+  pub is : slice_index numbers index ≡ number
+
+abbrev pub IsAmong : List ℕ → ℕ → Type 0
+IsAmong numbers number = IsAmongFirst numbers (length numbers) number

@@ -46,7 +46,7 @@ fn put_sources(rt: &impl Abort, decoder: Decoder, code: &Code, out: &mut [u8])
 fn the_worked_block_is_heard_and_solved(rt: HostRuntime) -> Result<(), Fail> {
     let tables = small_tables(rt.alloc()).ok().ok_or("the tables")?;
     let code = Code::new(rt.alloc(), &tables, 4).ok().ok_or("the code")?;
-    let mut decoder = Decoder::start(rt.alloc(), &code, 4)?;
+    let mut decoder = Decoder::start(rt.alloc(), &code, 4, false)?;
     assert!(rt; heard(&rt, &mut decoder, &code, 4, b"abcd"));
     assert!(rt; heard(&rt, &mut decoder, &code, 5, &[4, 4, 4, 12]));
     assert!(rt; heard(&rt, &mut decoder, &code, 6, &[8, 8, 8, 24]));
@@ -64,7 +64,7 @@ fn the_worked_block_is_heard_and_solved(rt: HostRuntime) -> Result<(), Fail> {
 fn a_symbol_that_follows_is_not_kept(rt: HostRuntime) -> Result<(), Fail> {
     let tables = small_tables(rt.alloc()).ok().ok_or("the tables")?;
     let code = Code::new(rt.alloc(), &tables, 4).ok().ok_or("the code")?;
-    let mut decoder = Decoder::start(rt.alloc(), &code, 4)?;
+    let mut decoder = Decoder::start(rt.alloc(), &code, 4, false)?;
     assert!(rt; heard(&rt, &mut decoder, &code, 0, b"ab"));
     assert!(rt; heard(&rt, &mut decoder, &code, 1, b""));
     assert!(rt; !heard(&rt, &mut decoder, &code, 4, b"ab"));
@@ -115,6 +115,19 @@ fn hear_drawn(
     right
 }
 
+/// Hears the source symbols.
+fn hear_sources(rt: &impl Abort, decoder: &mut Decoder, code: &Code, encoder: &Intermediate)
+    requires { IsOf code.now decoder.old }
+    ensures { IsOf code.now decoder.new }
+{
+    for esi in 0..code.k() {
+        let mut symbol = [0u8; 3];
+        assert_eq!(rt; encoder.t(), 3);
+        encoder.symbol(esi, &mut symbol);
+        assert!(rt; heard(rt, decoder, code, esi, &symbol));
+    }
+}
+
 /// Bytes that look random.
 fn bytes_for(alloc: Global, seed: u32, count: u32) -> Result<Vec<u8>, Memory> {
     let mut bytes = Vec::new(alloc);
@@ -125,13 +138,38 @@ fn bytes_for(alloc: Global, seed: u32, count: u32) -> Result<Vec<u8>, Memory> {
 }
 
 #[test]
+fn source_symbols_alone_are_copied(rt: HostRuntime) -> Result<(), Fail> {
+    let block = bytes_for(rt.alloc(), 3, 3 * 40)?;
+    let (code, encoder) = encoder_for(rt.alloc(), 40, &block)?;
+    let mut first = Decoder::start(rt.alloc(), &code, 3, false)?;
+    hear_sources(&rt, &mut first, &code, &encoder);
+    let mut second = Decoder::start(rt.alloc(), &code, 3, first.shows_usable())?;
+    hear_sources(&rt, &mut second, &code, &encoder);
+    assert!(rt; second.shows_usable());
+    assert!(rt; !heard(&rt, &mut second, &code, 7, b"abc"));
+    let mut out = bytes_for(rt.alloc(), 4, 3 * 40)?;
+    put_sources(&rt, second, &code, &mut out);
+    assert_eq!(rt; out, block);
+    Ok(())
+}
+
+#[test]
 fn blocks_are_solved_from_whichever_symbols_come(rt: HostRuntime) -> Result<(), Fail> {
     for k in [4u16, 5, 13, 40] {
         let block = bytes_for(rt.alloc(), 1, 3 * u32::from(k))?;
         let (code, encoder) = encoder_for(rt.alloc(), k, &block)?;
+        let mut whole = Decoder::start(rt.alloc(), &code, 3, false)?;
+        assert!(rt; !whole.shows_usable());
+        hear_sources(&rt, &mut whole, &code, &encoder);
+        let usable = whole.shows_usable();
+        assert!(rt; usable);
         for seed in 0..20u32 {
-            let mut decoder = Decoder::start(rt.alloc(), &code, 3)?;
+            let mut unknown = Decoder::start(rt.alloc(), &code, 3, false)?;
+            assert!(rt; hear_drawn(&rt, &mut unknown, &code, &encoder, seed));
+            // Where the code is known to be usable, the same symbols are kept.
+            let mut decoder = Decoder::start(rt.alloc(), &code, 3, usable)?;
             assert!(rt; hear_drawn(&rt, &mut decoder, &code, &encoder, seed));
+            assert_eq!(rt; decoder.kept(), unknown.kept());
             if decoder.is_complete() {
                 let mut out = bytes_for(rt.alloc(), 2, 3 * u32::from(k))?;
                 put_sources(&rt, decoder, &code, &mut out);

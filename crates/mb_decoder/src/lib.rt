@@ -5,6 +5,8 @@
 mod block;
 #[cfg(test)]
 mod decoder_tests;
+mod esi;
+mod offer;
 mod put;
 mod row;
 mod solve;

@@ -1,4 +1,5 @@
-ghost use Rattle.std.specs.Prelude.{◌≡◌, ℕ, ◌+◌, ◌*◌, ◌/◌, ◌^◌, ◌<◌, ◌≤◌, true, false, List, length, slice_index};
+ghost use Rattle.std.specs.Prelude.{◌≡◌, ℕ, ◌+◌, ◌*◌, ◌/◌, ◌^◌, ◌<◌, ◌≤◌, true, false, List, length, map, slice_index};
+ghost use Rattle.mb_linear.specs.Span.{AreIndependent};
 ghost use Rattle.mb_bits.specs.BitRow.{bit_in};
 ghost use Rattle.mb_elim.specs.Values.{byte_at, byte_sum, AreSums, AreUnknowns};
 ghost use Rattle.mb_encoder.specs.Symbols.{symbols_of};
@@ -36,6 +37,28 @@ fn copy_heard(esis: &[u16], symbols: &[u8], t: usize, k: u16, heard: &mut [u64],
             out[into..into + t].copy_from_slice(&symbols[from..from + t]);
         }
     }
+}
+
+/// Copies the source symbols among K symbols that are kept, none of which follows from the others, and says whether
+/// they are all.
+pub(crate) fn copy_sources(
+    code: &Code,
+    esis: &[u16],
+    symbols: &[u8],
+    t: usize,
+    out: &mut [u8],
+) -> bool
+    requires esis { length esis.now ≡ code.now.row.k }
+    requires symbols { length symbols.now ≡ t * code.now.row.k }
+    requires new { AreIndependent code.now.row.k (map (folded_row code.now) (solution.esis (kept.pairs_in t esis.now symbols.now code.now.row.k))) }
+    requires out { length out.old ≡ t * code.now.row.k }
+    ensures sources { result ≡ true → AreSources code.now t (kept.pairs_in t esis.now symbols.now code.now.row.k) out.new }
+    ensures count { length out.new ≡ length out.old }
+{
+    let k = code.k();
+    let mut heard = room::<ROW_WORDS>();
+    copy_heard(esis, symbols, t, k, &mut heard, out);
+    are_set(&heard, usize::from(k))
 }
 
 /// Puts the source symbols that were not heard, each the sum of the first K intermediate symbols over its folded row.
@@ -80,8 +103,8 @@ pub(crate) fn put_sources(
     symbols: &mut [u8],
     out: &mut [u8],
 )
-    requires of { block.IsOf code.now (kept.block_in t offered.now esis.now symbols.old) }
-    requires room { kept.AreBuffers t offered.now esis.now symbols.old }
+    requires of { block.IsOf code.now (kept.block_in t offered.now (length offered.now.news) false esis.now symbols.old) }
+    requires room { kept.AreBuffers t offered.now (length offered.now.news) false esis.now symbols.old }
     requires determined { DetermineBlock code.now (solution.esis (kept.pairs_in t esis.now symbols.old (length offered.now.news))) }
     requires out { length out.old ≡ t * offered.now.places }
     ensures sources { AreSources code.now t (kept.pairs_in t esis.now symbols.old (length offered.now.news)) out.new }

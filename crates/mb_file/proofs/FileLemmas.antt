@@ -20,7 +20,7 @@ use Rattle.mb_block.specs.Blocks as whole
 use Rattle.mb_block.specs.Blocks.{AreEachBlocks}
 use Rattle.mb_file.specs.File as file
 use Rattle.mb_file.specs.File.{File, IsFileOf, way_at, kept_at, hear_in, pairs_from, payload_pairs, are_complete, missing_in}
-use Rattle.mb_file.specs.FileView.{kept_of, kept_seen, AreInOne, IsOf, IsPlace, ArePlaces, IsRaptor, AreBlocks, StandAs, IsThere, AreHeard}
+use Rattle.mb_file.specs.FileView.{kept_of, kept_seen, AreInOne, IsOf, IsPlace, ArePlaces, IsRaptor, AreBlocks, StandAs, IsThere, HasWayOf, HasWay, AreHeard}
 use Rattle.mb_file.specs.declared.blocks.Blocks.{Blocks}
 use Rattle.mb_file.specs.declared.blocks.Blocks.TheVariants.{Nothing, NoCode, Raptor}
 
@@ -185,6 +185,20 @@ place-set (w ∷ ways) t (place ∷ places) (suc i) p are within is = (are.0, pl
 
 pub same-kept : (places : List (Option Block)) (i : ℕ) (p : Option Block) → kept_of p ≡ kept_of (get_or places i None) → map kept_of (set places i p) ≡ map kept_of places
 same-kept places i p is = map-set_same kept_of places i p None is
+
+-- ---- what a block shows of its code
+
+has-way_of : (w : Way) (t : ℕ) (place : Option Block) → IsPlace w t place → HasWayOf w place
+has-way_of w t None is = tt
+has-way_of w t (Some b) is = is.way
+
+pub has-way : (ways : List Way) (t sbn : ℕ) (blocks : Blocks) → AreBlocks ways t blocks → sbn < length ways → HasWay ways sbn blocks
+has-way ways t sbn Nothing are within = tt
+has-way ways t sbn (NoCode b) are within = tt
+has-way ways t sbn (Raptor v) are within = (
+  omega (arith, count-places ways t v.items are.each, within),
+  has-way_of (way_at ways sbn) t (get_or v.items sbn None) (place-at ways t v.items sbn are.each within),
+)
 
 -- ---- hearing
 

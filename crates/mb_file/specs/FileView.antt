@@ -91,6 +91,19 @@ HasRoom t sbn Nothing = ⊥
 HasRoom t sbn (NoCode b) = (sbn < length b.sizes) × (b.symbol ≡ t) × whole.AreWhole b
 HasRoom t sbn (Raptor v) = (sbn < length v.items) × IsThere t (slice_index_or v.items sbn None)
 
+-- ---- what a block shows of its code
+
+-- the block at a place has this way
+abbrev pub HasWayOf : Way → Option Block → Type 0
+HasWayOf w None = ⊤
+HasWayOf w (Some b) = b.way ≡ w
+
+-- under Raptor there is a place for the block, with its way
+abbrev pub HasWay : List Way → ℕ → Blocks → Type 0
+HasWay ways sbn Nothing = ⊤
+HasWay ways sbn (NoCode b) = ⊤
+HasWay ways sbn (Raptor v) = (sbn < length v.items) × HasWayOf (slice_index_or ways sbn (Way.NoCode 0)) (slice_index_or v.items sbn None)
+
 -- ---- hearing
 
 -- pairs were heard in one of the blocks, of which so many are kept

@@ -7,12 +7,13 @@ ghost use Rattle.mb_file.specs.Memory.{held};
 
 use crate::blocks::Blocks;
 use crate::memory::blocks_bytes;
-use crate::room::make_room;
+use crate::room::{is_nothing, make_room};
 use crate::run::hear_run;
 use crate::solve::{solve, take_space};
+use crate::usable::learn;
 use mb_base::{Gate, Memory};
 use mb_geom::Desc;
-use mb_way::Ways;
+use mb_way::{Codes, Ways};
 use std::alloc::Global;
 use std::marker::Model;
 use std::mem;
@@ -82,7 +83,8 @@ impl FileRx {
     }
 
     /// Hears the symbols of a payload in a block, the first of which has this ESI. It takes memory only for the first
-    /// symbol of the file, or of the block under Raptor. After `Memory` the file is as before.
+    /// symbol of the file, or of the block under Raptor. What a block shows of its code, the blocks that come after it
+    /// start with. After `Memory` the file is as before.
     pub fn hear(
         &mut self,
         alloc: Global,
@@ -105,10 +107,28 @@ impl FileRx {
         let count = payload.len().div_ceil(usize::from(symbol));
         let kept = hear_run(&mut self.blocks, sbn, symbol, esi, count, payload);
         self.missing -= u64::from(kept);
+        learn(&mut self.ways, &self.blocks, sbn, kept);
         Ok(News {
             kept,
             determined: count as u32 - kept,
         })
+    }
+
+    /// Notes in the codes of its session which codes of its blocks are known to be usable.
+    pub fn tell(&self, codes: &mut Codes)
+        ensures { codes.new ≡ codes.old }
+    {
+        codes.learn(&self.ways);
+    }
+
+    /// Notes which codes of its blocks are known to be usable in its session. Once a symbol of the file came, its own
+    /// blocks show as much, and nothing is done.
+    pub fn learn(&mut self, codes: &Codes)
+        ensures { self.new ≡ self.old }
+    {
+        if is_nothing(&self.blocks) {
+            codes.tell(&mut self.ways);
+        }
     }
 
     /// The bytes of its buffers: under Compact No-Code those of all symbols once one of them came, under Raptor those of

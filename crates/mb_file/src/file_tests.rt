@@ -140,3 +140,50 @@ fn a_file_under_compact_no_code_is_its_symbols(rt: HostRuntime) -> Result<(), Fa
     assert_eq!(rt; file.missing(), 0);
     Ok(())
 }
+
+/// Whether the ways of one more file with this description know that the code of its first block is usable.
+fn is_known(rt: &impl Abort, alloc: Global, codes: &mut Codes, desc: &Desc) -> bool {
+    let _length = desc.length();
+    assert!(rt; codes.has_ways(desc));
+    let ways = codes.ways(alloc, desc).expect(rt, "memory");
+    assert!(rt; ways.count() > 0);
+    ways.way(0).expect(rt, "memory").is_usable()
+}
+
+#[test]
+fn what_source_symbols_show_of_a_code_is_known_to_other_files(rt: HostRuntime) -> Result<(), Fail> {
+    let alloc = rt.alloc();
+    let mut codes = Codes::new(alloc, small_tables(alloc).ok().ok_or("the tables")?);
+    let mut others = Codes::new(alloc, small_tables(alloc).ok().ok_or("the tables")?);
+    let desc = described(&rt, alloc, 16, Scheme::Raptor { z: 1, n: 1, al: 4 });
+    let mut file = started(&rt, alloc, &mut codes, &desc);
+    let mut next = started(&rt, alloc, &mut codes, &desc);
+    let _last = started(&rt, alloc, &mut others, &desc);
+    heard(&rt, alloc, &mut file, &desc, (0, 0), b"abcdefghijkl");
+    file.tell(&mut codes);
+    assert!(rt; !is_known(&rt, alloc, &mut codes, &desc));
+    heard(&rt, alloc, &mut file, &desc, (0, 3), b"mnop");
+    assert_eq!(rt; file.missing(), 0);
+    file.tell(&mut codes);
+    assert!(rt; is_known(&rt, alloc, &mut codes, &desc));
+    next.tell(&mut others);
+    assert!(rt; !is_known(&rt, alloc, &mut others, &desc));
+    next.learn(&codes);
+    next.tell(&mut others);
+    assert!(rt; is_known(&rt, alloc, &mut others, &desc));
+    Ok(())
+}
+
+#[test]
+fn repair_symbols_show_nothing_of_a_code(rt: HostRuntime) -> Result<(), Fail> {
+    let alloc = rt.alloc();
+    let mut codes = Codes::new(alloc, small_tables(alloc).ok().ok_or("the tables")?);
+    let desc = described(&rt, alloc, 16, Scheme::Raptor { z: 1, n: 1, al: 4 });
+    let mut file = started(&rt, alloc, &mut codes, &desc);
+    let repair = b"abcd\x04\x04\x04\x0c\x08\x08\x08\x18\x04\x04\x04\x1c";
+    heard(&rt, alloc, &mut file, &desc, (0, 4), repair);
+    assert_eq!(rt; file.missing(), 0);
+    file.tell(&mut codes);
+    assert!(rt; !is_known(&rt, alloc, &mut codes, &desc));
+    Ok(())
+}

@@ -9,5 +9,6 @@ mod memory;
 mod room;
 mod run;
 mod solve;
+mod usable;
 
 pub use file::{FileRx, News};

@@ -83,7 +83,7 @@ pub(crate) fn make_room(
 }
 
 /// Whether no symbol came.
-fn is_nothing(blocks: &Blocks) -> bool
+pub(crate) fn is_nothing(blocks: &Blocks) -> bool
     ensures { IsNothing result blocks.now }
 {
     match blocks {

@@ -12,7 +12,7 @@ use crate::taken::Taken;
 use mb_base::{Bytes, Gate, Memory};
 use mb_file::{FileRx, News};
 use mb_geom::Desc;
-use mb_way::Ways;
+use mb_way::{Codes, Ways};
 use md5::{Digest, Md5};
 use std::alloc::Global;
 use std::marker::Model;
@@ -165,6 +165,20 @@ impl Life {
         ensures refused { OnErr result (self.new ≡ self.old) }
     {
         self.file.hear(alloc, &self.desc, sbn, esi, payload)
+    }
+
+    /// Notes in the codes of its session which codes of its blocks are known to be usable.
+    pub fn tell(&self, codes: &mut Codes)
+        ensures { codes.new ≡ codes.old }
+    {
+        self.file.tell(codes);
+    }
+
+    /// Notes which codes of its blocks are known to be usable in its session, before its first symbol is heard.
+    pub fn learn(&mut self, codes: &Codes)
+        ensures { self.new ≡ self.old }
+    {
+        self.file.learn(codes);
     }
 
     /// How many symbols of its blocks are not determined. A life that was handed out misses none.

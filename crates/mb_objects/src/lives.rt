@@ -13,6 +13,7 @@ ghost use Rattle.mb_objects.specs.LivesView.{tois, AreApart, AllFrom};
 use mb_base::{Gate, Memory};
 use mb_index::Index;
 use mb_life::{Life, News, Taken};
+use mb_way::Codes;
 use std::alloc::Global;
 use std::marker::Model;
 use std::thread::Threads;
@@ -213,6 +214,22 @@ impl Lives {
         let heard = life.hear(alloc, sbn, esi, payload);
         self.ready = self.ready + usize::from(life.is_ready()) - usize::from(was_ready);
         heard
+    }
+
+    /// Notes in the codes of the session which codes of the blocks of the life at a place are known to be usable.
+    pub fn tell(&self, codes: &mut Codes, place: usize)
+        requires { place < length self.now }
+        ensures { codes.new ≡ codes.old }
+    {
+        self.items[place].tell(codes);
+    }
+
+    /// Lets the life at a place know which codes of its blocks are known to be usable, before its first symbol is heard.
+    pub fn learn(&mut self, codes: &Codes, place: usize)
+        requires { place < length self.old }
+        ensures { self.new ≡ self.old }
+    {
+        self.items[place].learn(codes);
     }
 
     /// The TOI of the first life that is ready.

@@ -125,6 +125,7 @@ fn hear_fdt(
 /// Hears a packet of an object.
 fn hear_object(
     alloc: Global,
+    codes: &Codes,
     lives: &mut Lives,
     toi: u128,
     packet: &Packet<'_>,
@@ -138,6 +139,7 @@ fn hear_object(
     if let Some(reason) = object_reason(&lives.as_slice()[place], packet, body) {
         return Ok(Happened::Dropped(reason));
     }
+    lives.learn(codes, place);
     let news = lives.hear(alloc, place, body.sbn, body.esi, body.payload)?;
     Ok(Happened::Heard {
         toi,
@@ -183,6 +185,6 @@ pub fn hear_packet(
     if toi == 0 {
         hear_fdt(alloc, window, codes, lives, session.clock, packet, &body)
     } else {
-        hear_object(alloc, lives, toi, packet, &body)
+        hear_object(alloc, codes, lives, toi, packet, &body)
     }
 }

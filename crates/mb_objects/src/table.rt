@@ -180,6 +180,7 @@ impl Table {
         let Some(place) = self.lives.ready_place(toi) else {
             return Err(TakeFault::NotReady);
         };
+        self.lives.tell(&mut self.codes, place);
         let Ok(taken) = self.lives.take(rt, self.alloc, place, workers, gate) else {
             return Err(TakeFault::Memory);
         };

@@ -1,4 +1,4 @@
-ghost use Rattle.std.specs.Prelude.{◌≡◌, ◌≢◌, ◌↔◌, ℕ, ◌+◌, ◌*◌, ◌/◌, ◌<◌, ◌≤◌, false, All, length, take, IfOk};
+ghost use Rattle.std.specs.Prelude.{◌≡◌, ◌≢◌, ◌↔◌, ℕ, ◌+◌, ◌*◌, ◌/◌, ◌<◌, ◌≤◌, true, false, All, length, take, IfOk};
 ghost use Rattle.mb_bits.specs.BitRow.{bit_in, row_of};
 ghost use Rattle.mb_tables.specs.Limits.{IsRow, IsL};
 ghost use Rattle.mb_rows.specs.Code.{RaptorCode, IsCode, IsCodeOf, l_of};
@@ -67,6 +67,20 @@ fn copy_v1(alloc: Global, tables: &Tables) -> Result<Vec<u32>, Memory>
     Ok(words)
 }
 
+// Whether numbers are the same.
+fn are_same(words: &[u32], others: &[u32]) -> bool
+    ensures { result ≡ true ↔ words.now ≡ others.now }
+{
+    words == others
+}
+
+// Whether rows of the tables are the same.
+fn is_row(row: Row, other: Row) -> bool
+    ensures { result ≡ true ↔ row ≡ other }
+{
+    row.k == other.k && row.j == other.j && row.s == other.s && row.lp == other.lp
+}
+
 impl Code {
     /// The code of blocks of K symbols.
     ///
@@ -93,6 +107,16 @@ impl Code {
             h,
             folded,
         })
+    }
+
+    /// Whether another code is the same: that of the same K, by the same numbers.
+    pub fn is(&self, other: &Code) -> bool
+        ensures { result ≡ true ↔ self.now ≡ other.now }
+    {
+        is_row(self.row, other.row)
+            && self.h == other.h
+            && are_same(&self.v0, &other.v0)
+            && are_same(&self.v1, &other.v1)
     }
 
     /// K, the source symbols.

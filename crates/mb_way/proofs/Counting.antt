@@ -1,8 +1,7 @@
 -- A block is complete exactly where as many symbols are kept as it has source symbols.
-use Rattle.std.proofs.Common.{◌≡◌, ℕ, ◌+◌, ◌==◌, Bool, true, false, List, length, map, refl, sym, ◌∙◌, ap, subst, arith}
+use Rattle.std.proofs.Common.{◌≡◌, ℕ, ◌+◌, ◌==◌, Bool, true, false, List, length, refl, sym, ◌∙◌, ap, subst, arith}
 use Rattle.std.proofs.lemmas.List.{length-map}
 use Rattle.mb_rows.specs.Code.{RaptorCode}
-use Rattle.mb_rows.specs.Folding.{folded_row}
 use Rattle.mb_encoder.specs.Solutions.{Pair, esis}
 use Rattle.mb_decoder.proofs.Hearing.{is_complete}
 use Rattle.mb_way.specs.Way.{Way.NoCode, Way.Raptor}
@@ -28,12 +27,10 @@ same_tests false false f g = refl
 
 complete_raptor : (c : RaptorCode) (kept : List Pair) → AreKept (Raptor c) kept → heard.is_complete (Raptor c) kept ≡ (length kept == c.row.k)
 complete_raptor c kept are =
-    let rows = map (folded_row c) (esis kept) in
-    let count : length rows ≡ length kept = length-map (esis kept) (folded_row c) ∙ length-map kept (λ (p : Pair). p.esi) in
-    let full = is_complete c c.row.k rows (esis kept) (length rows == c.row.k) refl refl refl are.new in
-    same_tests (is_block_determined (Raptor c) (esis kept)) (length rows == c.row.k)
+    let full = is_complete c c.row.k (esis kept) (length (esis kept) == c.row.k) refl refl are.new in
+    same_tests (is_block_determined (Raptor c) (esis kept)) (length (esis kept) == c.row.k)
     (λ e. full.1 ((block_tested c (esis kept)).0 e)) (λ e. (block_tested c (esis kept)).1 (full.0 e))
-    ∙ ap (λ n. n == c.row.k) count
+    ∙ ap (λ n. n == c.row.k) (length-map kept (λ (p : Pair). p.esi))
 
 pub complete_count : CompleteByCount
 complete_count (NoCode k) kept are = complete_below k kept (range_below k kept are.range) are.new

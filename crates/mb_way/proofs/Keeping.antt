@@ -1,21 +1,20 @@
 -- What holds of the kept pairs of a block as one more is heard.
-use Rattle.std.proofs.Common.{◌≡◌, ℕ, zero, suc, ◌+◌, ◌-◌, ◌<◌, ◌≤◌, ◌==◌, Bool, true, false, not, nat_lt, cond, List, [], ◌∷◌, ◌++◌, length, map, refl, sym, ◌∙◌, ap, subst, arith, add-one}
+use Rattle.std.proofs.Common.{◌≡◌, ℕ, suc, ◌+◌, ◌-◌, ◌<◌, ◌≤◌, ◌==◌, Bool, true, false, not, nat_lt, cond, List, [], ◌∷◌, ◌++◌, length, map, refl, sym, ◌∙◌, ap, subst, arith, add-one}
 use Rattle.std.specs.List.{AllByRecursion}
 use Rattle.std.proofs.lemmas.Bool.{or_parts}
 use Rattle.std.proofs.lemmas.Grind.{common_steps}
 use Rattle.std.proofs.lemmas.List.{length-map, map-append}
-use Rattle.mb_linear.specs.Row.{chosen_sum}
-use Rattle.mb_linear.specs.Span.{IsSumOf, IsNothing, AreIndependent}
+use Rattle.mb_linear.specs.Span.{IsSumOf, AreIndependent}
 use Rattle.mb_linear.proofs.SpanLemmas.{sums_determined}
 use Rattle.mb_linear.proofs.Independence.{new_independent, independent_few}
 use Rattle.mb_elim.proofs.Snoc.{length_snoc, all_snoc}
-use Rattle.mb_elim.proofs.Gathering.{chosen_snoc}
 use Rattle.mb_rows.specs.Code.{RaptorCode}
 use Rattle.mb_rows.specs.Folding.{folded_row}
 use Rattle.mb_rows.specs.Determined.{Determines}
 use Rattle.mb_rows.proofs.DeterminedLemmas.{rows_determine_one}
 use Rattle.mb_encoder.specs.Solutions.{Pair, esis}
 use Rattle.mb_encoder.proofs.Offering.{length_folded}
+use Rattle.mb_decoder.proofs.Alone.{last_independent, rows_more}
 use Rattle.mb_decoder.proofs.Hearing.{folded_rows}
 use Rattle.mb_way.specs.Way.{Way, Way.NoCode, Way.Raptor, is_in_range}
 use Rattle.mb_way.specs.Determined.{is_determined}
@@ -123,35 +122,8 @@ no_code_more k kept pair are is =
 
 -- ---- of Raptor
 
--- a choice of rows by its last
-record LastOf (n : ℕ) (choice : List Bool) : Type 0 where
-  front : List Bool
-  last : Bool
-  is : choice ≡ front ++ last ∷ []
-  count : length front ≡ n
-
-last_of : (n : ℕ) (choice : List Bool) → length choice ≡ suc n → LastOf n choice
-last_of n [] e = absurd (omega arith)
-last_of zero (c ∷ []) e = record { front = []; last = c; is = refl; count = refl }
-last_of zero (c ∷ d ∷ choice) e = absurd (omega arith)
-last_of (suc n) (c ∷ choice) e =
-    let e2 : length choice ≡ suc n = omega arith in
-    let l = last_of n choice e2 in record { front = c ∷ l.front; last = l.last; is = ap (λ (bs : List Bool). c ∷ bs) l.is; count = ap suc l.count }
-
--- rows are independent wherever the first of them stands
-pub last_independent : (n : ℕ) (rows : List (List Bool)) (row : List Bool) → AreIndependent n (row ∷ rows) → AreIndependent n (rows ++ row ∷ [])
-unfolding chosen_sum
-last_independent n rows row free choice long none =
-    let l = last_of (length rows) choice (long ∙ length_snoc rows row) in
-    let sum = sym (chosen_snoc n l.front l.last rows row l.count) ∙ ap (λ (c : List Bool). chosen_sum n c (rows ++ row ∷ [])) (sym l.is) ∙ none in
-    let nothing : IsNothing (l.last ∷ l.front) = free (l.last ∷ l.front) (ap suc l.count) sum in
-    subst IsNothing (sym l.is) (all_snoc (λ c. c ≡ false) l.front l.last nothing.1 nothing.0)
-
 pub esis_more : (kept : List Pair) (pair : Pair) → esis (kept ++ pair ∷ []) ≡ esis kept ++ pair.esi ∷ []
 esis_more kept pair = map-append (λ (p : Pair). p.esi) kept (pair ∷ [])
-
-rows_more : (c : RaptorCode) (kept : List Pair) (pair : Pair) → map (folded_row c) (esis (kept ++ pair ∷ [])) ≡ map (folded_row c) (esis kept) ++ folded_row c pair.esi ∷ []
-rows_more c kept pair = ap (map (folded_row c)) (esis_more kept pair) ∙ map-append (folded_row c) (esis kept) (pair.esi ∷ [])
 
 new_row : (c : RaptorCode) (es : List ℕ) (esi : ℕ) → (Determines c es esi → ⊥) → IsSumOf c.row.k (map (folded_row c) es) (folded_row c esi) → ⊥
 new_row c es esi new s = new ((rows_determine_one c es esi).1 (sums_determined c.row.k (map (folded_row c) es) (folded_row c esi) (folded_rows c es) s))

@@ -24,7 +24,7 @@ use Rattle.mb_encoder.proofs.Solving.{source_esis_are}
 use Rattle.mb_encoder.proofs.Summing.{at_front}
 use Rattle.mb_decoder.proofs.Extending.{all_of, length_all, all_meet, all_folded, all_symbols}
 use Rattle.mb_decoder.proofs.Hearing.{folded_rows}
-use Rattle.mb_way.proofs.Keeping.{last_independent}
+use Rattle.mb_decoder.proofs.Alone.{last_independent}
 
 -- ---- unknowns of one byte
 

@@ -53,6 +53,24 @@ fn leave_shared(made: &mut Vec<SharedCode>)
     made.retain(|code| code.has_others());
 }
 
+/// Notes that a code is usable where one that was made is the same and known to be usable.
+fn learn_from_made(code: &mut SharedCode, made: &[SharedCode])
+    ensures { code.new ≡ code.old }
+{
+    for shared in made {
+        code.learn_from(shared);
+    }
+}
+
+/// Notes that the codes that were made are usable which are the same as this one, where that is known to be usable.
+fn tell_made(made: &mut [SharedCode], code: &SharedCode)
+    ensures { made.new ≡ made.old }
+{
+    for i in 0..made.len() {
+        made[i].learn_from(code);
+    }
+}
+
 /// The ways of blocks of a file under Raptor, which are divided like this.
 fn coded(parts: Parts, longer: SharedCode, shorter: SharedCode) -> Ways
     requires two { (longer.row.k ≡ parts.il) × (shorter.row.k ≡ parts.is) }
@@ -149,6 +167,26 @@ impl Codes {
                 let shorter = self.code(alloc, parts.is as u32)?;
                 Ok(coded(parts, longer, shorter))
             }
+        }
+    }
+
+    /// Notes of which codes that were made the ways of a file know that they are usable.
+    pub fn learn(&mut self, ways: &Ways)
+        ensures { self.new ≡ self.old }
+    {
+        if let Some(two) = &ways.codes {
+            tell_made(&mut self.made, &two.longer);
+            tell_made(&mut self.made, &two.shorter);
+        }
+    }
+
+    /// Tells the ways of a file which of their codes are known to be usable.
+    pub fn tell(&self, ways: &mut Ways)
+        ensures { ways.new ≡ ways.old }
+    {
+        if let Some(two) = &mut ways.codes {
+            learn_from_made(&mut two.longer, &self.made);
+            learn_from_made(&mut two.shorter, &self.made);
         }
     }
 

@@ -1,5 +1,6 @@
-ghost use Rattle.std.specs.Prelude.{◌≡◌, ◌↔◌, ℕ, ◌<◌, ◌≤◌, Err, Some, None, IfOk, IfErr, IfSome, IfNone};
-ghost use Rattle.mb_rows.specs.Code.{IsCode};
+ghost use Rattle.std.specs.Prelude.{◌≡◌, ◌↔◌, ℕ, ◌<◌, ◌≤◌, true, Err, Some, None, IfOk, IfErr, IfSome, IfNone};
+ghost use Rattle.mb_rows.specs.Code.{RaptorCode, IsCode};
+ghost use Rattle.mb_decoder.specs.Block.{SourcesDetermine};
 ghost use Rattle.mb_geom.specs.Description.{block_count, block_size};
 ghost use Rattle.mb_way.specs.Way.{Way, NoCode, Raptor, code_of, way_of, size_of, is_in_range, IsWay};
 
@@ -137,6 +138,16 @@ impl Way {
         match &self.kind {
             Kind::NoCode(_) => None,
             Kind::Raptor(code) => Some(code.code()),
+        }
+    }
+
+    /// Whether the block's code is known to be usable: its source symbols determine the block.
+    pub fn is_usable(&self) -> bool
+        ensures { (c : RaptorCode) → self.now ≡ Raptor c → result ≡ true → SourcesDetermine c }
+    {
+        match &self.kind {
+            Kind::NoCode(_) => false,
+            Kind::Raptor(code) => code.is_usable(),
         }
     }
 }

@@ -46,7 +46,9 @@ impl Ways {
     ghost use Rattle.mb_geom.specs.Partition.{sizes_of};
     ghost use Rattle.std.specs.Prelude.{[], length, map, slice_index, slice_index_or, IfOk};
     ghost use Rattle.mb_geom.specs.Description.{Description, block_sizes, equations_once};
-    ghost use Rattle.mb_way.specs.Way.{Way, NoCode, IsWay};
+    ghost use Rattle.mb_rows.specs.Code.{RaptorCode};
+    ghost use Rattle.mb_decoder.specs.Block.{SourcesDetermine};
+    ghost use Rattle.mb_way.specs.Way.{Way, NoCode, Raptor, IsWay};
     ghost use Rattle.mb_way.specs.Ways.{AreWaysOf};
 
     /// The ways of blocks of a file under Compact No-Code, which are divided like this, or of no blocks.
@@ -79,6 +81,20 @@ impl Ways {
             None => Ok(Way::no_code(self.parts.size(number) as u32)),
             Some(two) if number < self.parts.jl => Ok(Way::raptor(two.longer.share()?)),
             Some(two) => Ok(Way::raptor(two.shorter.share()?)),
+        }
+    }
+
+    /// Notes that the code of this block is usable, where it has one. The ways that are handed out from now on know it.
+    pub fn learn(&mut self, sbn: u16)
+        requires block { sbn < length self.old }
+        requires usable { (c : RaptorCode) → slice_index_or self.old sbn (NoCode 0) ≡ Raptor c → SourcesDetermine c }
+        ensures { self.new ≡ self.old }
+    {
+        let is_longer = u64::from(sbn) < self.parts.jl;
+        match &mut self.codes {
+            None => {}
+            Some(two) if is_longer => two.longer.learn(),
+            Some(two) => two.shorter.learn(),
         }
     }
 

@@ -1,4 +1,4 @@
-use Rattle.std.proofs.Common.{◌≡◌, ℕ, List, map, replicate, None, ap, subst, sym, ◌∙◌}
+use Rattle.std.proofs.Common.{ℕ, map, replicate, None, ap, subst, sym, ◌∙◌}
 use Rattle.mb_way.specs.Way.{Way.NoCode}
 use Rattle.mb_block.specs.Blocks as whole
 use Rattle.mb_file.specs.FileView.{kept_of, ArePlaces}

@@ -35,4 +35,5 @@ returns c t =
     ap (λ (l : Life). object_reason l packet body) (sym same) ∙ (sym c.object_reason.ensures.exact ∙ c.in_default-object_reason.is) in
     heard-object c.args.toi lives c.hear.new.self packet body t life seen c.in-Some.place c.in_ok-news.news.kept c.in_ok-news.news.determined
     (at-position c.args.toi lives c.in-Some.place seen (sym c.place.ensures.place ∙ c.in-Some.is)) c.in-Some.ensures.within none
-    (c.in_ok-news.ensures.block seen) (c.in_ok-news.ensures.heard seen) (c.in_ok-news.ensures.kept seen) (c.in_ok-news.ensures.determined seen)
+    (rw c.learn.ensures at (c.in_ok-news.ensures.block seen)) (rw c.learn.ensures at (c.in_ok-news.ensures.heard seen))
+    (rw c.learn.ensures at (c.in_ok-news.ensures.kept seen)) (rw c.learn.ensures at (c.in_ok-news.ensures.determined seen))

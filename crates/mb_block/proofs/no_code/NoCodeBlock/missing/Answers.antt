@@ -3,7 +3,6 @@ use Rattle.std.specs.Global.{Vec}
 use Rattle.std.specs.List.{filter, range_with_len}
 use Rattle.std.proofs.lemmas.Result.{IfOk-weaker}
 use Rattle.mb_bits.specs.BitRow.{bit_in}
-use Rattle.mb_way.specs.Way.{Way.NoCode}
 use Rattle.mb_block.specs.Block.{Block}
 use Rattle.mb_block.specs.Missing.{request, is_usable}
 use Rattle.mb_block.proofs.MissingLemmas.{missing-places, suffice}

@@ -5,4 +5,4 @@ use Rattle.mb_decoder.proofs.block.Decoder.kept.Goals as goal
 
 pub returns-clause-exact : goal.returns-clause-exact
 returns-clause-exact c =
-    c.rank.ensures.count ∙ sym (pairs_count c.self.inside.t _ c.self.inside.esis.items c.self.inside.symbols.items) ∙ ap (λ (b : Block). length b.kept) c.self.view_is
+    sym (pairs_count c.self.inside.t _ c.self.inside.esis.items c.self.inside.symbols.items) ∙ ap (λ (b : Block). length b.kept) c.self.view_is

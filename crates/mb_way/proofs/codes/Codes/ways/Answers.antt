@@ -45,3 +45,8 @@ returns-in_ok-shorter-in-Raptor-clause-fit c =
     subst (AreWaysOf c.args.desc.now) (sym c.coded.ensures)
     (raptor_fit c.args.desc.now c.parts-parts.result c.in-Raptor.z c.in-Raptor.n c.in-Raptor.al c.in_ok-longer-in-Raptor.longer c.in_ok-shorter-in-Raptor.shorter
     (sym c.scheme.ensures ∙ c.in-Raptor.is) c.parts-parts.ensures.sizes long.0 short.0 long.1 short.1)
+
+pub coded-requires-clause-one : goal.coded-requires-clause-one
+coded-requires-clause-one c =
+    (are_two c.args.desc.now c.parts-parts.result c.in-Raptor.z c.in-Raptor.n c.in-Raptor.al c.length-length.ensures.good
+    (sym c.scheme.ensures ∙ c.in-Raptor.is) c.parts-parts.ensures.exact).one
