@@ -1,0 +1,3 @@
+pub mod Shelf
+pub mod Reading
+pub mod InMemory
