@@ -85,12 +85,17 @@ class Memory(ProgramTest):
             os.remove(os.path.join(self.folder, name))
 
     def test_refused_arguments(self):
-        for name in ("mbms_rx", "mbms_tab"):
-            with self.subTest(name):
-                for ended in self.under_each_limit([path_of(name)], b""):
-                    if ended.status != USAGE:
-                        self.is_beginning(ended, "usage\n")
-                self.is_ended(ended, USAGE, "usage\n")
+        for ended in self.under_each_limit([path_of("mbms_tab")], b""):
+            if ended.status != USAGE:
+                self.is_beginning(ended, "usage\n")
+        self.is_ended(ended, USAGE, "usage\n")
+
+    def test_refused_arguments_of_the_receiver(self):
+        """Why they are refused is told first, where there is room for it."""
+        for ended in self.under_each_limit([path_of("mbms_rx")], b""):
+            if ended.status != USAGE:
+                self.assertEqual((ended.status, ended.lines), (MEMORY, ""))
+        self.is_refused(ended, "--tsi <tsi>")
 
 
 if __name__ == "__main__":

@@ -70,9 +70,10 @@ class Outputs(ProgramTest):
 
     @unittest.skipUnless(os.path.exists("/dev/full"), "there is no /dev/full")
     def test_refused_arguments_where_usage_cannot_be_printed(self):
-        for name in ("mbms_rx", "mbms_tab"):
-            with open("/dev/full", "wb") as full:
-                self.is_stopped([path_of(name)], stdout=full)
+        with open("/dev/full", "wb") as full:
+            self.is_stopped([path_of("mbms_tab")], stdout=full)
+            ended = self.called([path_of("mbms_rx")], stdout=full)
+        self.assertEqual((ended.status, ended.lines), (OUT_FAULT, ""))
 
     def test_a_closed_standard_error_changes_nothing(self):
         lines = fdt_line(1) + STORED + END
@@ -100,9 +101,9 @@ class Inputs(ProgramTest):
         self.is_unread(stdin=folder)
 
     def test_refused_arguments_do_not_need_it(self):
-        for name in ("mbms_rx", "mbms_tab"):
-            ended = self.called(["sh", "-c", 'exec "$@" <&-', "sh", path_of(name)])
-            self.is_ended(ended, USAGE, "usage\n")
+        unread = ["sh", "-c", 'exec "$@" <&-', "sh"]
+        self.is_refused(self.called([*unread, path_of("mbms_rx")]), "--tsi <tsi>")
+        self.is_ended(self.called([*unread, path_of("mbms_tab")]), USAGE, "usage\n")
 
     def test_all_streams_closed(self):
         for words, status in (*INPUTS, (lambda: make_words(4), OUT_FAULT)):

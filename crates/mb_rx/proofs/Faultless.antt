@@ -5,7 +5,7 @@ use Rattle.mb_base.specs.Outside.{Becomes, Rose}
 use Rattle.mb_base.specs.Broadcast.{Record, Broadcast, IsPast, Takes}
 use Rattle.mb_base.specs.Status.{Status}
 use Rattle.mb_base.specs.Status.TheVariants as status
-use Rattle.mb_rx.specs.declared.words.RxWords.{RxWords}
+use Rattle.mb_words.specs.declared.rx.RxWords.{RxWords}
 use Rattle.mb_rx.specs.declared.cause.Cause.TheVariants as cause
 use Rattle.mb_rx.specs.declared.cause.Ending.{Ending}
 use Rattle.mb_rx.specs.declared.cause.Ending.TheVariants.{EndsBy, BreaksAt}

@@ -7,7 +7,7 @@ use Rattle.mb_rx.specs.Receiver.{fresh, step}
 use Rattle.mb_rx.specs.Run.{Event, Line, Known, Session, after_record, session, packet_events, hand_out_events, end_events, events_of, Extends}
 use Rattle.mb_program.specs.Lines as program
 use Rattle.mb_rx.specs.declared.cause.Cause.{Cause}
-use Rattle.mb_rx.specs.declared.words.RxWords.{RxWords}
+use Rattle.mb_words.specs.declared.rx.RxWords.{RxWords}
 use Rattle.mb_rx.specs.declared.cause.Ending.{Ending}
 use Rattle.mb_rx.specs.declared.cause.Ending.TheVariants.{EndsBy, BreaksAt}
 use Rattle.mb_rx.specs.Receive.{events_by, known_of}

@@ -25,7 +25,7 @@ use Rattle.mb_machine.proofs.HonestLemmas as machine
 use Rattle.mb_rx.specs.Receiver.{Receiver, fresh, hear_datagram, step}
 use Rattle.mb_rx.specs.Run.{Event, Line, Session, after_record, session, count_line, expired_line, fault_count, fault_lines, drop_lines, incomplete_lines, end_events, taken_events, hand_out_events, Known}
 use Rattle.mb_rx.specs.Lines as line
-use Rattle.mb_rx.specs.declared.words.RxWords.{RxWords}
+use Rattle.mb_words.specs.declared.rx.RxWords.{RxWords}
 use Rattle.mb_rx.specs.declared.cause.Cause.{Cause}
 use Rattle.mb_rx.specs.declared.cause.Ending.{Ending}
 use Rattle.mb_rx.specs.declared.cause.Ending.TheVariants.{EndsBy, BreaksAt}

@@ -7,7 +7,7 @@ use Rattle.mb_base.specs.Broadcast.{Record, Broadcast, Hears, IsPast, Takes, IsO
 use Rattle.mb_base.specs.AirEvent.TheVariants.{Datagram, Quiet, Ended, Broken, Failed}
 use Rattle.mb_base.specs.Status.{Status}
 use Rattle.mb_base.specs.Status.TheVariants as status
-use Rattle.mb_rx.specs.declared.words.RxWords.{RxWords}
+use Rattle.mb_words.specs.declared.rx.RxWords.{RxWords}
 use Rattle.mb_rx.specs.declared.session.Listened.{Listened}
 use Rattle.mb_rx.specs.declared.cause.Ending.{Ending}
 use Rattle.mb_rx.specs.declared.cause.Ending.TheVariants.{EndsBy, BreaksAt}

@@ -11,7 +11,7 @@ use Rattle.mb_machine.specs.declared.happened.Happened.TheVariants.{Dropped, Par
 use Rattle.mb_tables.specs.Tables.{RaptorTables}
 use Rattle.mb_rx.specs.Receiver.{step}
 use Rattle.mb_rx.specs.Run.{Event, Session, after_record, session, packet_events, taken_events, hand_out_events}
-use Rattle.mb_rx.specs.declared.words.RxWords.{RxWords}
+use Rattle.mb_words.specs.declared.rx.RxWords.{RxWords}
 use Rattle.mb_rx.specs.declared.cause.Ending.{Ending}
 use Rattle.mb_rx.specs.Receive.{puts_in, PutsEachReady, events_by}
 use Rattle.mb_rx.proofs.Making.{puts_in-append}

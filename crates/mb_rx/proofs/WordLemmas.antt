@@ -1,26 +1,19 @@
 -- What holds of the values of good words.
-use Rattle.std.proofs.Common.{◌≡◌, ℕ, ◌<◌, ◌≤◌, Bool, true, false, cond, bytes_eq, List, [], ◌∷◌, Option, Some, None, option_map, codes, sym, ap, arith}
-use Rattle.std.proofs.lemmas.Option.{same_Some}
-use Rattle.mb_rx.specs.declared.words.RxWords.{RxWords}
-use Rattle.mb_rx.specs.Words.{tsi_in, session_words, words_of}
+use Rattle.std.proofs.Common.{◌≡◌, ℕ, ◌<◌, ◌≤◌, Bool, true, cond, List, Option, Some, None, refl, subst}
+use Rattle.std.proofs.lemmas.Option.{cond_some}
+use Rattle.mb_words.specs.declared.rx.RxWords.{RxWords}
+use Rattle.mb_words.specs.Rx.{rx_words_of}
+use Rattle.mb_words.specs.Values.{and_then}
+use Rattle.mb_words.proofs.WorkerLemmas.{few_of_words}
+use Rattle.mb_rx.specs.Words.{asks_nobody, words_of}
 
-one_worker : (tables : Option (List ℕ)) (tsi : Option ℕ) (words : RxWords) → option_map (session_words tables) tsi ≡ Some words → words.workers ≡ 1
-one_worker tables (Some tsi) words is = sym (ap (λ (w : RxWords). w.workers) (same_Some (session_words tables tsi) words is))
-one_worker tables None words is = absurd cc
-
-one_with : (b : Bool) (tables : Option (List ℕ)) (tsi : Option ℕ) (words : RxWords) → cond b (option_map (session_words tables) tsi) None ≡ Some words → words.workers ≡ 1
-one_with true tables tsi words is = one_worker tables tsi words is
-one_with false tables tsi words is = absurd cc
-
-workers_of : (given : List (List ℕ)) (words : RxWords) → words_of given ≡ Some words → words.workers ≡ 1
-unfolding words_of
-workers_of (name ∷ number ∷ []) words is = one_worker None (tsi_in name number) words is
-workers_of (name ∷ number ∷ option ∷ text ∷ []) words is = one_with (bytes_eq option (codes "--tables")) (Some text) (tsi_in name number) words is
-workers_of (name ∷ number ∷ option ∷ text ∷ other ∷ others) words is = absurd cc
-workers_of (name ∷ number ∷ option ∷ []) words is = absurd cc
-workers_of (name ∷ []) words is = absurd cc
-workers_of [] words is = absurd cc
+kept_within : (given : List (List ℕ)) (found : Option RxWords) (words : RxWords) → rx_words_of given ≡ found
+    → and_then found (λ values. cond (asks_nobody values) (Some values) None) ≡ Some words → (0 < words.workers) × (words.workers ≤ 64)
+kept_within given (Some values) words is kept =
+    few_of_words given words (subst (λ (w : RxWords). rx_words_of given ≡ Some w) (cond_some (asks_nobody values) values words kept).1 is)
+kept_within given None words is kept = absurd cc
 
 -- the threads may be started
 pub few_workers : (given : List (List ℕ)) (words : RxWords) → words_of given ≡ Some words → (0 < words.workers) × (words.workers ≤ 64)
-few_workers given words is = let one = workers_of given words is in (omega (arith, one), omega (arith, one))
+unfolding words_of
+few_workers given words is = kept_within given (rx_words_of given) words refl is

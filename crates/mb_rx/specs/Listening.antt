@@ -6,7 +6,7 @@ use Rattle.mb_base.specs.Status.{Status}
 use Rattle.mb_base.specs.Status.TheVariants as status
 use Rattle.mb_rx.specs.declared.cause.Ending.{Ending}
 use Rattle.mb_rx.specs.declared.session.Listened.{Listened}
-use Rattle.mb_rx.specs.declared.words.RxWords.{RxWords}
+use Rattle.mb_words.specs.declared.rx.RxWords.{RxWords}
 use Rattle.mb_rx.specs.Receiver.{Receiver}
 use Rattle.mb_rx.specs.Run.{Session, Event, after_record}
 use Rattle.mb_rx.specs.Receive.{Outputs, Makes, Stops, AreInTime, IsEnding, ClosesBy, datagrams_most}

@@ -19,7 +19,7 @@ use Rattle.mb_alc.specs.declared.fault.FaultKind.TheVariants as kind
 use Rattle.mb_rx.specs.declared.faults.Faults.{Faults}
 use Rattle.mb_rx.specs.declared.cause.Cause.{Cause}
 use Rattle.mb_rx.specs.declared.cause.Cause.TheVariants.{Quiet, Ended, Closed, Limit}
-use Rattle.mb_rx.specs.declared.words.RxWords.{RxWords}
+use Rattle.mb_words.specs.declared.rx.RxWords.{RxWords}
 
 -- a file is put into the store, a line is printed, a server is asked
 pub data Event : Type 0 where

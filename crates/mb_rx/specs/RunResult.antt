@@ -3,7 +3,7 @@ use Rattle.std.specs.Prelude.{Option, Result, Ok, Err}
 use Rattle.mb_base.specs.Broadcast.{Broadcast}
 use Rattle.mb_base.specs.Status.{Status}
 use Rattle.mb_tables.specs.Tables.{RaptorTables}
-use Rattle.mb_rx.specs.declared.words.RxWords.{RxWords}
+use Rattle.mb_words.specs.declared.rx.RxWords.{RxWords}
 use Rattle.mb_rx.specs.Receive.{Outputs, IsRun}
 
 abbrev pub Runs : RxWords → RaptorTables → Option Broadcast → Option Broadcast → Outputs → Outputs → Result Status Status → Type 0

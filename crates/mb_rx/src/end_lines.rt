@@ -14,11 +14,11 @@ use crate::events::print;
 use crate::faults::Faults;
 use crate::lines::{dropped_line, end_line, expired_line, incomplete_line, reason_word};
 use crate::receiver::Receiver;
-use crate::words::RxWords;
 use mb_alc::FaultKind;
 use mb_base::{Sink, Status};
 use mb_life::Life;
 use mb_machine::{Drops, Reason};
+use mb_words::RxWords;
 use std::alloc::Global;
 
 /// Prints how many datagrams were dropped for the reason of a word, if any were.

@@ -5,7 +5,7 @@ ghost use Rattle.mb_base.specs.Outside.{Rose};
 ghost use Rattle.mb_base.specs.Broadcast.{Broadcast};
 ghost use Rattle.mb_base.specs.Status.{Status};
 ghost use Rattle.mb_base.specs.Status.TheVariants as status;
-ghost use Rattle.mb_rx.specs.declared.words.RxWords.{RxWords};
+ghost use Rattle.mb_words.specs.declared.rx.RxWords.{RxWords};
 ghost use Rattle.mb_tables.specs.Tables.{RaptorTables};
 ghost use Rattle.mb_rx.specs.Tables.{AreGoodTables, AreBadTables};
 ghost use Rattle.mb_rx.specs.Receive.{Receives, Outputs, IsUncounted, IsWholeTrace, IsCutTrace, Completes, FindsBroken, FindsBad};

@@ -29,5 +29,6 @@ pub use cause::{Cause, DATAGRAMS_MAX, Ending};
 pub use laws::{
     bad_tables_are_found, broken_traces_are_found, faultless_calls_complete, run_grows,
 };
+pub use mb_words::{Mode, ReportWord, RxWords};
 pub use receiving::receive;
-pub use words::{Mode, ReportWord, RxWords, read_words};
+pub use words::read_words;

@@ -398,6 +398,16 @@ fn what_came_before_a_fault_stays(rt: HostRuntime) -> Result<(), Fail> {
 }
 
 #[test]
+fn a_record_past_the_last_moment_ends_the_session(rt: HostRuntime) -> Result<(), Fail> {
+    let trace = trace_of(&rt, rt.alloc(), &[FDT, HELLO, (NOW + 1, BYTE)])?;
+    let words = ["--until", "3899999000", "--tsi", "1"];
+    let left = received(&rt, &words, &trace, [&[], &[], &[]])?;
+    let printed = [FDT1, STORED, "end quiet 3899999000 datagrams 2"];
+    assert_left(&rt, &left, &printed, 0, &[FILE])?;
+    Ok(())
+}
+
+#[test]
 fn refused_words_read_nothing(rt: HostRuntime) -> Result<(), Fail> {
     let words: [&[&str]; 5] = [
         &[],

@@ -12,10 +12,11 @@ use crate::events::print;
 use crate::receiver::Receiver;
 use crate::session::listen;
 use crate::tables::tables_for;
-use crate::words::{RxWords, read_words};
+use crate::words::read_words;
 use mb_base::{Air, Chance, Gate, Links, Sink, Source, Status, Store, WordsFault};
 use mb_program::{broken_line, refuse};
 use mb_tables::Tables;
+use mb_words::RxWords;
 use std::alloc::Global;
 use std::thread::Threads;
 

@@ -17,11 +17,11 @@ use crate::lines::{
     bad_instance_line, damaged_line, instance_line, late_instance_line, stored_line,
 };
 use crate::receiver::Receiver;
-use crate::words::RxWords;
 use mb_base::{Air, AirEvent, DatagramBuffer, Gate, Sink, Status, Store};
 use mb_life::Taken;
 use mb_machine::Happened;
 use mb_objects::{Table, TakeFault};
+use mb_words::RxWords;
 use std::alloc::Global;
 use std::thread::Threads;
 

@@ -8,10 +8,10 @@ ghost use Rattle.mb_tables.specs.declared.fault.TablesFault.TheVariants as table
 ghost use Rattle.mb_rx.specs.Steps.{RefusesTables, StopsReading};
 ghost use Rattle.mb_rx.specs.Tables.{IsReadAs, no_tables};
 
-use crate::words::RxWords;
 use mb_base::{Memory, Sink, Source, Status};
 use mb_program::{print, tables_line};
 use mb_tables::{Tables, TablesFault, read_tables};
+use mb_words::RxWords;
 use std::alloc::Global;
 
 /// Tables that have no row.

@@ -1,3 +1,4 @@
 pub mod CommandLemmas
 pub mod TxLemmas
 pub mod RxLemmas
+pub mod WorkerLemmas

@@ -15,6 +15,7 @@ mod words_tests;
 
 pub use choices::{Mode, ReportWord};
 pub use numbers::number_of;
-pub use rx::{RxWords, rx_refused_text, rx_words};
+pub use refusals::{rx_options, rx_refusal};
+pub use rx::{RxWords, rx_words};
 pub use scheme::SchemeWord;
 pub use tx::{TxWords, tx_refused_text, tx_words};

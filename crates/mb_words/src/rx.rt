@@ -5,7 +5,6 @@ ghost use Rattle.mb_words.specs.Rx.{numbers_of, path_of, rx_app, rx_values, rx_w
 use crate::choices::{Mode, ReportWord, mode_of, report_of};
 use crate::forms::{OptionForm, command, with_texts};
 use crate::paths::is_path;
-use crate::refusals::refused_text;
 use crate::values::{are_servers, number, owned, owned_if, owned_texts, text, texts};
 use clap::error::ErrorKind;
 use clap::{ArgMatches, Command};
@@ -47,7 +46,7 @@ pub struct RxWords {
 }
 
 /// The options of the receiver.
-static FORMS: [OptionForm; 14] = [
+pub(crate) static FORMS: [OptionForm; 14] = [
     OptionForm {
         name: "tsi",
         is_required: true,
@@ -138,14 +137,8 @@ pub fn rx_words(alloc: Global, words: &[String]) -> Result<RxWords, WordsFault>
     }
 }
 
-/// What the program says of words that `rx_words` refuses: which are refused, and what they may be. Its text is not
-/// promised. `AllocError` where there is no room for it.
-pub fn rx_refused_text(alloc: Global, words: &[String]) -> Result<String, AllocError> {
-    let command = rx_command(alloc)?;
-    refused_text(alloc, command, FORMS.as_slice(), words)
-}
-
-fn rx_command<'a>(alloc: Global) -> Result<Command<'a>, AllocError>
+/// The command of the receiver.
+pub(crate) fn rx_command<'a>(alloc: Global) -> Result<Command<'a>, AllocError>
     ensures { IfOk result (λ command. app_of command ≡ rx_app) }
 {
     let command = command(alloc, "mbms_rx", FORMS.as_slice())?;

@@ -1,6 +1,6 @@
 //! How words are spelled, the ends of each range, and the values where words are missing.
 
-use crate::{Mode, ReportWord, SchemeWord, number_of, rx_refused_text, rx_words, tx_words};
+use crate::{Mode, ReportWord, SchemeWord, number_of, rx_options, rx_refusal, rx_words, tx_words};
 use std::alloc::{AllocError, Global};
 use std::test::*;
 
@@ -122,14 +122,32 @@ fn numbers_are_digits_alone(rt: HostRuntime) {
 
 #[test]
 fn refused_words_are_said(rt: HostRuntime) -> Result<(), Fail> {
-    let words = words_in(rt.alloc(), "--tsi 1 --workers 65")?;
-    let text = rx_refused_text(rt.alloc(), words.as_slice())?;
+    let cases = [
+        (
+            "--tsi 1 --workers 65",
+            "error: invalid value '65' for '--workers <workers>': threads, 1 to 64, else 1\n",
+        ),
+        (
+            "--tsi 1 --unknown 1",
+            "error: unexpected argument '--unknown' found\n",
+        ),
+        (
+            "--tsi 1 host\t80",
+            "error: invalid value 'host\t80' for '[server]...': 1 to 256 bytes, each of ! to ~\n",
+        ),
+    ];
+    for (line, wanted) in cases {
+        let words = words_in(rt.alloc(), line)?;
+        let told = rx_refusal(rt.alloc(), words.as_slice())?.expect(&rt, "the words are refused");
+        assert_eq!(&rt; told.as_str(), wanted);
+    }
+    let words = words_in(rt.alloc(), "--tsi 1 host:80")?;
+    assert!(&rt; rx_refusal(rt.alloc(), words.as_slice())?.is_none());
+    let options = rx_options(rt.alloc())?;
     assert!(&rt;
-        text.as_str().contains("--workers 65: threads, 1 to 64"),
-        "{text}"
+        options
+            .as_str()
+            .contains("--workers <workers>    threads, 1 to 64, else 1")
     );
-    let words = words_in(rt.alloc(), "--tsi 1 --unknown 1")?;
-    let text = rx_refused_text(rt.alloc(), words.as_slice())?;
-    assert!(&rt; text.as_str().contains("'--unknown'"), "{text}");
     Ok(())
 }

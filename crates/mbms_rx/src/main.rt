@@ -1,15 +1,18 @@
-//! The receiver of one FLUTE session. Its arguments are `--tsi` and the session's number, and behind them may stand
-//! `--tables` and the path of a file with the tables of the Raptor code; the datagrams come as a packet trace on the
-//! standard input, the files go into the folder in which it runs, and the lines to the standard output. It ends with
-//! the number of its status.
+//! The receiver of one FLUTE session. Its words are options, of which `--tsi` and the session's number are needed; the
+//! datagrams come as a packet trace, which is the standard input or the file that `--trace` names, the files go into
+//! the folder that `--folder` names, and the lines to the standard output. It ends with the number of its status. Why
+//! words are refused is told on the standard error.
 #![tactic(auto)]
 
+mod refusal;
+
+use crate::refusal::tell_refusal;
 use mb_base::{
-    FolderStore, ListChance, MemLinks, Memory, OpenGate, Status, StdSink, StdSource, TraceAir,
-    WordsFault,
+    FolderStore, ListChance, MemLinks, Memory, OpenGate, Source, Status, StdSink, StdSource,
+    TraceAir, WordsFault,
 };
 use mb_program::{FileSource, arguments_of};
-use mb_rx::{read_words, receive};
+use mb_rx::{RxWords, read_words, receive};
 use std::alloc::Global;
 use std::io;
 use std::process::ExitCode;
@@ -20,40 +23,76 @@ fn main(rt: HostRuntime) -> ExitCode {
     ExitCode::from(run(&rt).unwrap_or(Status::Memory).number())
 }
 
-/// The source of the tables that the arguments name, which is empty where they name none.
-fn tables_named<R: Files>(
-    files: &R,
-    alloc: Global,
-    arguments: &[String],
-) -> Result<FileSource<R::File>, Memory> {
-    let named = match read_words(alloc, arguments) {
-        Ok(words) => words.tables,
-        Err(WordsFault::Refused) => None,
-        Err(WordsFault::Memory) => return Err(Memory),
-    };
-    match named {
-        Some(path) => FileSource::open(files, alloc, path.as_slice()),
-        None => Ok(FileSource::nothing()),
-    }
-}
-
-/// Receives over the objects that the program uses: nothing is asked of a server.
-fn run<R: Threads + Sync + Env + Files + Input + Print + AllocGlobal>(
+/// Receives what the arguments ask for. Where they are refused, that is told first, and nothing is opened.
+fn run<R: Threads + Sync + Env + Files + Input + Print + Eprint + AllocGlobal>(
     rt: &R,
 ) -> Result<Status, Memory> {
     let alloc: Global = rt.alloc();
     let arguments = arguments_of(rt)?;
-    // A trace is read in large pieces already, so no buffer stands before it.
-    let mut air = TraceAir::new(alloc, StdSource::new(rt.reader()))?;
-    let mut tables = tables_named(rt, alloc, &arguments)?;
-    let mut store = FolderStore::new(rt, alloc, ".")?;
+    match read_words(alloc, &arguments) {
+        Ok(words) => open_and_receive(rt, alloc, &arguments, &words),
+        Err(WordsFault::Refused) => {
+            tell_refusal(rt, alloc, &arguments)?;
+            let tables = FileSource::<R::File>::nothing();
+            let trace = FileSource::<R::File>::nothing();
+            receive_from(rt, alloc, &arguments, tables, ".", trace)
+        }
+        Err(WordsFault::Memory) => Err(Memory),
+    }
+}
+
+/// Receives over the files and the folder that good words name.
+fn open_and_receive<R: Threads + Sync + Files + Input + Print + AllocGlobal>(
+    rt: &R,
+    alloc: Global,
+    arguments: &[String],
+    words: &RxWords,
+) -> Result<Status, Memory> {
+    let tables = match &words.tables {
+        Some(path) => FileSource::open(rt, alloc, path.as_slice())?,
+        None => FileSource::nothing(),
+    };
+    // The folder was a text among the arguments, so it is one.
+    let folder = str::from_utf8(words.folder.as_slice()).unwrap_or(".");
+    match &words.trace {
+        Some(path) => {
+            let trace = FileSource::open(rt, alloc, path.as_slice())?;
+            receive_from(rt, alloc, arguments, tables, folder, trace)
+        }
+        // A trace is read in large pieces already, so no buffer stands before it.
+        None => receive_from(
+            rt,
+            alloc,
+            arguments,
+            tables,
+            folder,
+            StdSource::new(rt.reader()),
+        ),
+    }
+}
+
+/// Receives over the objects that the program uses: nothing is asked of a server.
+fn receive_from<
+    R: Threads + Sync + Files + Print + AllocGlobal,
+    T: Source + Drop,
+    S: Source + Drop,
+>(
+    rt: &R,
+    alloc: Global,
+    arguments: &[String],
+    mut tables: T,
+    folder: &str,
+    trace: S,
+) -> Result<Status, Memory> {
+    let mut air = TraceAir::new(alloc, trace)?;
+    let mut store = FolderStore::new(rt, alloc, folder)?;
     let mut out = StdSink::new(io::writer(rt));
     let mut links = MemLinks::new(alloc, Vec::new(alloc), Vec::new(alloc))?;
     let mut chance = ListChance::new(Vec::new(alloc))?;
     Ok(receive(
         rt,
         alloc,
-        &arguments,
+        arguments,
         &mut tables,
         &mut air,
         &mut store,

@@ -27,8 +27,9 @@ def path_of(name):
     return path
 
 
-def receive_words(tsi=1, tables=None):
-    return [path_of("mbms_rx"), "--tsi", str(tsi)] + ([] if tables is None else ["--tables", tables])
+def receive_words(tsi=1, tables=None, *others):
+    named = [] if tables is None else ["--tables", tables]
+    return [path_of("mbms_rx"), "--tsi", str(tsi), *named, *others]
 
 
 def show_words():
@@ -94,6 +95,13 @@ class ProgramTest(unittest.TestCase):
     def is_ended(self, ended, status, lines):
         """The program ended with the status, printed these lines, and told nothing else, as of a panic."""
         self.assertEqual((ended.told, ended.status, ended.lines), ("", status, lines))
+
+    def is_refused(self, ended, why):
+        """The receiver refused its arguments: it printed `usage`, and told why it did and which options there are."""
+        self.assertEqual((ended.status, ended.lines), (USAGE, "usage\n"))
+        self.assertTrue(ended.told.startswith("error: "), ended.told)
+        self.assertIn(why, ended.told.partition("\n\n")[0])
+        self.assertIn("--workers <workers>    threads, 1 to 64, else 1\n", ended.told)
 
     def has_files(self, files, folder=None):
         """The folder has these files and nothing else, each of them the bytes of its name."""
