@@ -1,0 +1,4 @@
+pub mod Trace
+pub mod Sent
+pub mod Block
+pub mod Counts
