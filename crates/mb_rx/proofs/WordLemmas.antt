@@ -1,5 +1,5 @@
 -- What holds of the values of good words.
-use Rattle.std.proofs.Common.{◌≡◌, ℕ, ◌<◌, ◌≤◌, Bool, true, cond, List, Option, Some, None, refl, subst}
+use Rattle.std.proofs.Common.{◌≡◌, ℕ, ◌<◌, ◌≤◌, cond, List, Option, Some, None, refl, subst}
 use Rattle.std.proofs.lemmas.Option.{cond_some}
 use Rattle.mb_words.specs.declared.rx.RxWords.{RxWords}
 use Rattle.mb_words.specs.Rx.{rx_words_of}
